@@ -1,0 +1,4 @@
+pub mod Line
+pub mod Machine
+pub mod Nest
+pub mod Pair

@@ -1,0 +1,41 @@
+-- The plain nest: an ascending list of keys without repetition.
+use mathlib.Core.Path.{_≡_}
+use mathlib.Core.Bool.{Bool, true, false, cond, not, _&&_, _||_}
+use mathlib.Core.List.{List, [], _∷_}
+use Rattle.plain_model.specs.declared.nest_op.NestOp.{NestOp}
+use Rattle.plain_model.specs.declared.nest_op.NestOp.the-variants as op
+use Rattle.plain_model.specs.declared.nest_op.NestAnswer.{NestAnswer}
+use Rattle.plain_model.specs.declared.nest_op.NestAnswer.the-variants.{Added, There, Dropped, Missing, Yes, No}
+use Rattle.plain_model.specs.Machine.{Machine}
+
+module _ {K : Type 0} (before : K → K → Bool) where
+  -- neither key is before the other
+  abbrev pub same : K → K → Bool
+  same k x = not (before k x) && not (before x k)
+
+  abbrev pub has : K → List K → Bool
+  has k [] = false
+  has k (x ∷ xs) = same k x || has k xs
+
+  -- k in front of the first key that is not before it
+  abbrev pub insert : K → List K → List K
+  insert k [] = k ∷ []
+  insert k (x ∷ xs) = cond (before x k) (x ∷ insert k xs) (k ∷ x ∷ xs)
+
+  abbrev pub remove : K → List K → List K
+  remove k [] = []
+  remove k (x ∷ xs) = cond (same k x) xs (x ∷ remove k xs)
+
+  abbrev pub apply : NestOp K → List K → List K × NestAnswer
+  apply (op.Add k) xs = cond (has k xs) (xs, There) (insert k xs, Added)
+  apply (op.Drop k) xs = cond (has k xs) (remove k xs, Dropped) (xs, Missing)
+  apply (op.Find k) xs = (xs, cond (has k xs) Yes No)
+
+  abbrev pub nest : Machine (List K) (NestOp K) NestAnswer K
+  nest = record { empty = []; apply = apply; listed = λ xs. xs }
+
+  -- every key is before the one after it
+  pub data Ascending : List K → Type 0 where
+    none : Ascending []
+    one : {x : K} → Ascending (x ∷ [])
+    more : {x y : K} {zs : List K} → before x y ≡ true → Ascending (y ∷ zs) → Ascending (x ∷ y ∷ zs)

@@ -1,6 +1,8 @@
 -- What a total order on keys is.
 use mathlib.Core.Path.{_≡_}
-use mathlib.Core.Bool.{Bool, true, cond}
+use mathlib.Core.Bool.{Bool, true, cond, _&&_, _||_}
+use Prim.Native.Nat.{ℕ}
+use lib.Dec.{ltb, eqb}
 use Rattle.std.specs.declared.cmp.Ordering.{Ordering}
 use Rattle.std.specs.declared.cmp.Ordering.the-variants.{Less, Equal, Greater}
 
@@ -20,3 +22,7 @@ pub record Total {K : Type 0} (before : K → K → Bool) : Type 0 where
 -- how two keys compare under a test of keys
 abbrev pub compared : {K : Type 0} → (K → K → Bool) → K → K → Ordering
 compared before x y = cond (before x y) Less (cond (before y x) Greater Equal)
+
+-- two numbers each, compared by the first and then by the second
+abbrev pub lexicographic : ℕ → ℕ → ℕ → ℕ → Bool
+lexicographic a b c d = ltb a c || (eqb a c && ltb b d)

@@ -34,8 +34,12 @@ module _ {K : Type 0} (before : K → K → Bool) where
   abbrev pub nest : Machine (List K) (NestOp K) NestAnswer K
   nest = record { empty = []; apply = apply; listed = λ xs. xs }
 
+  -- a key is before the first of a list
+  abbrev pub Leads : K → List K → Type 0
+  Leads x [] = Unit {0}
+  Leads x (y ∷ ys) = before x y ≡ true
+
   -- every key is before the one after it
-  pub data Ascending : List K → Type 0 where
-    none : Ascending []
-    one : {x : K} → Ascending (x ∷ [])
-    more : {x y : K} {zs : List K} → before x y ≡ true → Ascending (y ∷ zs) → Ascending (x ∷ y ∷ zs)
+  abbrev pub Ascending : List K → Type 0
+  Ascending [] = Unit {0}
+  Ascending (x ∷ xs) = Leads x xs × Ascending xs

@@ -1,6 +1,9 @@
 // Why a call is sent back.
 ghost use mathlib.Core.Path.{_≡_};
 ghost use Rattle.keys.specs.Refusals.{number as number-of};
+ghost use Rattle.keys.specs.declared.refusal.Refusal.the-variants.{NoMemory};
+use std::alloc::AllocError;
+use std::alloc::Refused;
 
 // The reasons for which a call is sent back. Each has the number that reports print; want of memory, which is
 // the machine's and not the caller's, has none.
@@ -63,5 +66,21 @@ impl Refusal {
             Refusal::ShortList => Some(15),
             Refusal::NoMemory => None,
         }
+    }
+}
+
+pub impl From<AllocError> for Refusal as RefusalFromAlloc {
+    ghost converts = { λ _ r. r ≡ NoMemory };
+
+    fn from(_error: AllocError) -> Refusal {
+        Refusal::NoMemory
+    }
+}
+
+pub impl<T: Drop> From<Refused<T>> for Refusal as RefusalFromRefused {
+    ghost converts = { λ _ r. r ≡ NoMemory };
+
+    fn from(_error: Refused<T>) -> Refusal {
+        Refusal::NoMemory
     }
 }

@@ -1,12 +1,16 @@
 -- The plain nest stays strictly ascending, whatever operation is applied.
-use mathlib.Core.Path.{_≡_, refl, sym, _∙_}
-use mathlib.Core.Bool.{Bool, true, false, cond, not, _&&_, _||_, true≢false}
+use mathlib.Core.Path.{_≡_, refl, sym, ap, subst}
+use mathlib.Core.Bool.{Bool, true, false, cond}
 use mathlib.Core.List.{List, [], _∷_}
-use Rattle.std.proofs.shelf.Tests.{cases-bool, or-parts}
+use Rattle.std.proofs.shelf.Tests.{or-parts}
 use Rattle.std.proofs.shelf.Ways.{tells}
 use native.Mathlib.Omega.{arith}
 use Rattle.keys.specs.Order.{Total}
-use Rattle.plain_model.specs.Nest.{same, has, insert, remove, apply, Leads, Ascending}
+use Rattle.keys.specs.declared.refusal.Refusal.{Refusal}
+use Rattle.std.specs.declared.result.Result.{Result}
+use Rattle.std.specs.declared.result.Result.the-variants.{Ok, Err}
+use Rattle.plain_model.specs.Machine.{Applied}
+use Rattle.plain_model.specs.Nest.{same, has, insert, remove, apply, nest, Leads, Ascending}
 use Rattle.plain_model.specs.declared.nest_op.NestOp.{NestOp}
 use Rattle.plain_model.specs.declared.nest_op.NestOp.the-variants.{Add, Drop, Find}
 use Rattle.plain_model.specs.declared.nest_op.NestAnswer.{NestAnswer}
@@ -48,3 +52,8 @@ module _ {K : Type 0} (before : K → K → Bool) (total : Total before) where
       by false e = insert-ascending k xs e a
   apply-ascending (Drop k) xs a = elim (has before k xs) as (λ b. Ascending before (cond {A = List K × NestAnswer} b (remove before k xs, Dropped) (xs, Missing) .0)) [ true ↦ remove-ascending k xs a | false ↦ a ]
   apply-ascending (Find k) xs a = a
+
+  -- the same of a call that may find no memory
+  pub applied-ascending : (o : NestOp K) (was now : List K) (r : Result NestAnswer Refusal) → Applied (nest before) o was now r → Ascending before was → Ascending before now
+  applied-ascending o was now (Ok a) e asc = subst (λ (s : List K). Ascending before s) (sym (ap (λ (s : List K × NestAnswer). s .0) e)) (apply-ascending o was asc)
+  applied-ascending o was now (Err x) e asc = subst (λ (s : List K). Ascending before s) (sym (e .0)) asc

@@ -80,7 +80,7 @@ pub impl From<AllocError> for Refusal as RefusalFromAlloc {
 pub impl<T: Drop> From<Refused<T>> for Refusal as RefusalFromRefused {
     ghost converts = { λ _ r. r ≡ NoMemory };
 
-    fn from(_error: Refused<T>) -> Refusal {
+    fn from(_refused: Refused<T>) -> Refusal {
         Refusal::NoMemory
     }
 }

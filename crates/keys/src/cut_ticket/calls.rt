@@ -3,6 +3,7 @@ ghost use mathlib.Core.Path.{_≡_};
 ghost use Rattle.std.specs.declared.option.Option.the-variants.{Some};
 ghost use Rattle.keys.specs.Elements.{cut-ticket, ticket-text};
 use crate::cut_ticket::CutTicket;
+use crate::range::is_within;
 use crate::refusal::Refusal;
 use crate::size_label::SizeLabel;
 use crate::size_label::calls::SizeLabelDisplay;
@@ -14,7 +15,7 @@ impl CutTicket {
     pub fn new(size: SizeLabel, plies: u32) -> Result<CutTicket, Refusal>
         ensures { λ r. ⌜ r ≡ cut-ticket size plies ⌝ }
     {
-        if 1 <= plies && plies <= 200 {
+        if is_within(1, 200, plies) {
             Ok(CutTicket { size, plies })
         } else {
             Err(Refusal::OutOfRange)

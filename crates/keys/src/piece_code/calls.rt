@@ -7,6 +7,7 @@ use crate::key::Key;
 use crate::piece_code::PieceCode;
 use crate::piece_code::PieceCodeEq;
 use crate::piece_code::PieceCodePartialEq;
+use crate::range::is_within;
 use crate::refusal::Refusal;
 use crate::text::Text;
 use std::cmp::Ordering;
@@ -17,7 +18,7 @@ impl PieceCode {
     pub fn new(letter: char, number: u32) -> Result<PieceCode, Refusal>
         ensures { λ r. ⌜ r ≡ piece-code letter number ⌝ }
     {
-        if 'A' <= letter && letter <= 'Z' && 1 <= number && number <= 999 {
+        if is_within('A' as u32, 'Z' as u32, letter as u32) && is_within(1, 999, number) {
             Ok(PieceCode { letter, number })
         } else {
             Err(Refusal::OutOfRange)

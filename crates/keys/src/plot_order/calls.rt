@@ -5,6 +5,7 @@ ghost use Rattle.keys.specs.Elements.{plot-order, order-text};
 use crate::piece_code::PieceCode;
 use crate::piece_code::calls::PieceCodeDisplay;
 use crate::plot_order::PlotOrder;
+use crate::range::is_within;
 use crate::refusal::Refusal;
 use crate::text::Text;
 use std::fmt;
@@ -14,7 +15,7 @@ impl PlotOrder {
     pub fn new(piece: PieceCode, copies: u32) -> Result<PlotOrder, Refusal>
         ensures { λ r. ⌜ r ≡ plot-order piece copies ⌝ }
     {
-        if 1 <= copies && copies <= 50 {
+        if is_within(1, 50, copies) {
             Ok(PlotOrder { piece, copies })
         } else {
             Err(Refusal::OutOfRange)

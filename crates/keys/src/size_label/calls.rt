@@ -4,6 +4,7 @@ ghost use Rattle.std.specs.declared.option.Option.the-variants.{Some};
 ghost use Rattle.keys.specs.Order.{compared};
 ghost use Rattle.keys.specs.Sizes.{waist-size, rank as rank-of, before as comes-before, letter-text, size-text};
 use crate::key::Key;
+use crate::range::is_within;
 use crate::refusal::Refusal;
 use crate::size_label::LetterSize;
 use crate::size_label::SizeLabel;
@@ -19,7 +20,7 @@ impl WaistSize {
     pub fn new(waist: u32, leg: u32) -> Result<WaistSize, Refusal>
         ensures { λ r. ⌜ r ≡ waist-size waist leg ⌝ }
     {
-        if 40 <= waist && waist <= 160 && 50 <= leg && leg <= 110 {
+        if is_within(40, 160, waist) && is_within(50, 110, leg) {
             Ok(WaistSize { waist, leg })
         } else {
             Err(Refusal::OutOfRange)

@@ -2,7 +2,7 @@
 ghost use mathlib.Core.Path.{_≡_};
 ghost use mathlib.Core.List.{List, [], _∷_, _++_};
 ghost use Rattle.std.specs.Of.Vec.{vec-items};
-ghost use Rattle.plain_model.specs.Line.{line, take as taken-from};
+ghost use Rattle.plain_model.specs.Line.{line, grows as line-grows, take as taken-from};
 ghost use Rattle.plain_model.specs.Machine.{Applied};
 use crate::plain_machine::PlainMachine;
 use keys::refusal::Refusal;
@@ -36,7 +36,7 @@ impl<E: Copy> PlainLine<E> {
 
     // Appends an element.
     pub fn put(&mut self, element: E) -> Result<LineAnswer<E>, Refusal>
-        ensures { λ r. ⌜ Applied line (LineOp.Put element) (vec-items (now (self .entry) .elements)) (vec-items (now (self .exit) .elements)) r ⌝ }
+        ensures { λ r. ⌜ Applied line line-grows (LineOp.Put element) (vec-items (now (self .entry) .elements)) (vec-items (now (self .exit) .elements)) r ⌝ }
     {
         self.elements.push(element)?;
         Ok(LineAnswer::Put)
@@ -66,6 +66,8 @@ pub impl<E: Copy> PlainMachine for PlainLine<E> as PlainLineMachine {
     ghost state = { λ s. vec-items (s .elements) };
 
     ghost machine = { line };
+
+    ghost grows = { line-grows };
 
     fn apply(&mut self, op: &LineOp<E>) -> Result<LineAnswer<E>, Refusal> {
         match *op {

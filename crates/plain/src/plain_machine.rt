@@ -1,4 +1,5 @@
 // The interface of plain machines.
+ghost use mathlib.Core.Bool.{Bool};
 ghost use Rattle.plain_model.specs.Machine.{Machine, Applied};
 use keys::refusal::Refusal;
 
@@ -17,7 +18,10 @@ pub trait PlainMachine {
 
     ghost machine: { Machine State Self·Op Self·Answer Self·Item };
 
+    // whether an operation may need memory
+    ghost grows: { Self·Op → Bool };
+
     // Applies one operation. Where memory is lacking nothing changes.
     fn apply(&mut self, op: &Self::Op) -> Result<Self::Answer, Refusal>
-        ensures { λ r. ⌜ Applied machine (now (op .entry)) (state (now (self .entry))) (state (now (self .exit))) r ⌝ };
+        ensures { λ r. ⌜ Applied machine grows (now (op .entry)) (state (now (self .entry))) (state (now (self .exit))) r ⌝ };
 }

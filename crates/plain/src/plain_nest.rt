@@ -2,7 +2,7 @@
 ghost use mathlib.Core.Path.{_≡_};
 ghost use mathlib.Core.List.{List, []};
 ghost use Rattle.std.specs.Of.Vec.{vec-items};
-ghost use Rattle.plain_model.specs.Nest.{nest, same as same-key, has, Ascending};
+ghost use Rattle.plain_model.specs.Nest.{nest, grows as nest-grows, same as same-key, has, Ascending};
 ghost use Rattle.plain_model.specs.Machine.{Applied};
 ghost use Rattle.plain.specs.Search.{Stands, Belongs};
 use crate::plain_machine::PlainMachine;
@@ -76,7 +76,7 @@ impl<K: Key> PlainNest<K> {
 
     // Inserts the key where it belongs, unless it is there.
     pub fn add(&mut self, key: K) -> Result<NestAnswer, Refusal>
-        ensures { λ r. ⌜ Applied (nest before) (NestOp.Add key) (vec-items (now (self .entry) .keys)) (vec-items (now (self .exit) .keys)) r ⌝ }
+        ensures { λ r. ⌜ Applied (nest before) (nest-grows before) (NestOp.Add key) (vec-items (now (self .entry) .keys)) (vec-items (now (self .exit) .keys)) r ⌝ }
     {
         if self.holds(&key) {
             return Ok(NestAnswer::There);
@@ -113,8 +113,10 @@ pub impl<K: Key> PlainMachine for PlainNest<K> as PlainNestMachine {
 
     ghost machine = { nest before };
 
+    ghost grows = { nest-grows before };
+
     fn apply(&mut self, op: &NestOp<K>) -> Result<NestAnswer, Refusal>
-        ensures applied { λ r. ⌜ Applied (nest before) (now (op .entry)) (vec-items (now (self .entry) .keys)) (vec-items (now (self .exit) .keys)) r ⌝ }
+        ensures applied { λ r. ⌜ Applied (nest before) (nest-grows before) (now (op .entry)) (vec-items (now (self .entry) .keys)) (vec-items (now (self .exit) .keys)) r ⌝ }
         ensures ascends { λ _. ⌜ (Ascending before (vec-items (now (self .entry) .keys)) → Ascending before (vec-items (now (self .exit) .keys))) ⌝ }
     {
         match *op {

@@ -1,6 +1,5 @@
 // The pair of two plain machines.
-ghost use mathlib.Core.Path.{_≡_};
-ghost use Rattle.plain_model.specs.Pair.{pair};
+ghost use Rattle.plain_model.specs.Pair.{pair, grows as either-grows};
 use crate::plain_machine::PlainMachine;
 use keys::refusal::Refusal;
 use plain_model::side::Side;
@@ -24,6 +23,8 @@ pub impl<A: PlainMachine, B: PlainMachine> PlainMachine for PlainPair<A, B> as P
     ghost state = { λ s. (A·PlainMachine .state (s .first), B·PlainMachine .state (s .second)) };
 
     ghost machine = { pair (A·PlainMachine .machine) (B·PlainMachine .machine) };
+
+    ghost grows = { either-grows (A·PlainMachine .grows) (B·PlainMachine .grows) };
 
     fn apply(&mut self, op: &Side<A::Op, B::Op>) -> Result<Side<A::Answer, B::Answer>, Refusal> {
         match op {

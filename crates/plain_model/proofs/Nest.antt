@@ -10,7 +10,7 @@ use Rattle.keys.specs.declared.refusal.Refusal.{Refusal}
 use Rattle.std.specs.declared.result.Result.{Result}
 use Rattle.std.specs.declared.result.Result.the-variants.{Ok, Err}
 use Rattle.plain_model.specs.Machine.{Applied}
-use Rattle.plain_model.specs.Nest.{same, has, insert, remove, apply, nest, Leads, Ascending}
+use Rattle.plain_model.specs.Nest.{same, has, insert, remove, apply, grows, nest, Leads, Ascending}
 use Rattle.plain_model.specs.declared.nest_op.NestOp.{NestOp}
 use Rattle.plain_model.specs.declared.nest_op.NestOp.the-variants.{Add, Drop, Find}
 use Rattle.plain_model.specs.declared.nest_op.NestAnswer.{NestAnswer}
@@ -54,6 +54,6 @@ module _ {K : Type 0} (before : K → K → Bool) (total : Total before) where
   apply-ascending (Find k) xs a = a
 
   -- the same of a call that may find no memory
-  pub applied-ascending : (o : NestOp K) (was now : List K) (r : Result NestAnswer Refusal) → Applied (nest before) o was now r → Ascending before was → Ascending before now
+  pub applied-ascending : (o : NestOp K) (was now : List K) (r : Result NestAnswer Refusal) → Applied (nest before) (grows before) o was now r → Ascending before was → Ascending before now
   applied-ascending o was now (Ok a) e asc = subst (λ (s : List K). Ascending before s) (sym (ap (λ (s : List K × NestAnswer). s .0) e)) (apply-ascending o was asc)
   applied-ascending o was now (Err x) e asc = subst (λ (s : List K). Ascending before s) (sym (e .0)) asc

@@ -1,5 +1,6 @@
 -- A plain machine is a sequential specification: a state that starts empty, and what each operation makes of it and answers.
 use mathlib.Core.Path.{_≡_}
+use mathlib.Core.Bool.{Bool, true}
 use mathlib.Core.List.{List, [], _∷_, _++_}
 use Rattle.std.specs.declared.result.Result.{Result}
 use Rattle.std.specs.declared.result.Result.the-variants.{Ok, Err}
@@ -24,6 +25,7 @@ module _ {State Op Answer Item : Type 0} (m : Machine State Op Answer Item) wher
       replay m (xs ++ ys) s ≡ (replay m ys (replay m xs s .0) .0, replay m xs s .1 ++ replay m ys (replay m xs s .0) .1)
 
   -- What a call that applies an operation did to the state and told: what the machine says, or, where memory is lacking, nothing.
-  abbrev pub Applied : Op → State → State → Result Answer Refusal → Type 0
-  Applied o was now (Ok a) = (now, a) ≡ m .apply o was
-  Applied o was now (Err e) = (now ≡ was) × (e ≡ NoMemory)
+  -- Memory can be lacking only for an operation that may make the state grow.
+  abbrev pub Applied : (Op → Bool) → Op → State → State → Result Answer Refusal → Type 0
+  Applied grows o was now (Ok a) = (now, a) ≡ m .apply o was
+  Applied grows o was now (Err e) = (now ≡ was) × (e ≡ NoMemory) × (grows o ≡ true)

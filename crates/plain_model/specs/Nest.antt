@@ -31,6 +31,12 @@ module _ {K : Type 0} (before : K → K → Bool) where
   apply (op.Drop k) xs = cond (has k xs) (remove k xs, Dropped) (xs, Missing)
   apply (op.Find k) xs = (xs, cond (has k xs) Yes No)
 
+  -- only an add makes the nest grow
+  abbrev pub grows : NestOp K → Bool
+  grows (op.Add k) = true
+  grows (op.Drop k) = false
+  grows (op.Find k) = false
+
   abbrev pub nest : Machine (List K) (NestOp K) NestAnswer K
   nest = record { empty = []; apply = apply; listed = λ xs. xs }
 

@@ -1,5 +1,5 @@
 -- Each turn replays one operation more.
-use mathlib.Core.Path.{_≡_, ap, _∙_}
+use mathlib.Core.Path.{_≡_, ap}
 use mathlib.Core.List.{List, [], _∷_, _++_}
 use Prim.Native.Nat.{_+_, _<_, _≤_}
 use native.Mathlib.Omega.{arith}
@@ -14,9 +14,9 @@ use Rattle.plain.proofs.replay.replay.Needs as need
 pub returns-in-Break-apply : need.returns-in-Break-apply
 returns-in-Break-apply g c =
     let p = err-from-errBy (c .from-residual .result) (c .from-residual .ensures .1) in
-    let same = c .in-Break-apply .ensures tt in
     let so-far : g .M·PlainMachine .state (c .loop-op .machine) ≡ replay (g .M·PlainMachine .machine) (take (c .loop-op .op-index) (c .args .ops .now)) (g .M·PlainMachine .state (c .args .machine .now)) .0 = ap (λ (r : g .M·PlainMachine .State × List (g .M·Answer .Denot)). r .0) (c .loop-op .inv) in
-    record { replayed = rw (p .1) (p .2 ∙ same .1, (c .loop-op .op-index, omega arith, same .0 ∙ so-far)); joins = replay-joins (g .M·PlainMachine .machine) }
+    let unchanged : g .M·PlainMachine .state (c .apply .last .self) ≡ g .M·PlainMachine .state (c .loop-op .machine) = c .in-Break-apply .ensures tt .0 in
+    record { replayed = rw (p .1) (cc (p .2, c .in-Break-apply .ensures tt .1), (c .loop-op .op-index, omega arith, (cc))); joins = replay-joins (g .M·PlainMachine .machine) }
 
 pub returns-in-Break-push : need.returns-in-Break-push
 returns-in-Break-push g c =

@@ -1,0 +1,4 @@
+// Tests of keys, elements, orders and plain machines.
+
+#[cfg(test)]
+mod tests;

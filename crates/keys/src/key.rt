@@ -17,5 +17,8 @@ pub trait Key: Copy + Ord {
 
     // Does this key come before the other?
     fn is_before(&self, other: &Self) -> bool
-        ensures { λ r. ⌜ r ≡ before (now (self .entry)) (now (other .entry)) ⌝ };
+        ensures { λ r. ⌜ r ≡ before (now (self .entry)) (now (other .entry)) ⌝ }
+    {
+        self.cmp(other).is_lt()
+    }
 }

@@ -46,10 +46,6 @@ pub impl PartialOrd<PieceCode> for PieceCode as PieceCodePartialOrd {
 
 pub impl Key for PieceCode as PieceCodeKey {
     ghost before = { comes-before };
-
-    fn is_before(&self, other: &PieceCode) -> bool {
-        self.cmp(other).is_lt()
-    }
 }
 
 pub impl fmt::Display for PieceCode as PieceCodeDisplay {

@@ -69,10 +69,6 @@ pub impl PartialOrd<SizeLabel> for SizeLabel as SizeLabelPartialOrd {
 
 pub impl Key for SizeLabel as SizeLabelKey {
     ghost before = { comes-before };
-
-    fn is_before(&self, other: &SizeLabel) -> bool {
-        self.cmp(other).is_lt()
-    }
 }
 
 pub impl fmt::Display for LetterSize as LetterSizeDisplay {

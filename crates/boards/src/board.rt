@@ -1,7 +1,7 @@
 // The interface of boards.
 ghost use mathlib.Core.Path.{_≡_};
 ghost use mathlib.Core.Bool.{cond};
-ghost use Prim.Native.Nat.{ℕ, _≤_};
+ghost use Prim.Native.Nat.{ℕ, _-_, _^_, _≤_, min};
 ghost use lib.Dec.{leb};
 ghost use lib.ListN.{length};
 ghost use Rattle.std.specs.shelf.Maps.{nth};
@@ -72,9 +72,9 @@ pub trait Board {
     fn space(&self, op: &Self::Op) -> bool
         ensures { λ r. ⌜ r ≡ means .space (model (now (self .entry))) (now (op .entry)) ⌝ };
 
-    // How many items the contents have.
+    // How many items the contents have, or the largest number where they have more than that.
     fn items(&self) -> usize
-        ensures { λ r. ⌜ r ≡ length (plain .listed (means .contents (model (now (self .entry))))) ⌝ };
+        ensures { λ r. ⌜ r ≡ min (length (plain .listed (means .contents (model (now (self .entry)))))) (2 ^ 64 - 1) ⌝ };
 
     // The item at a place of the contents, counted from 0.
     fn item(&self, place: usize) -> Option<Self::Item>

@@ -1,0 +1,9 @@
+pub mod Lists
+pub mod Histories
+pub mod Stations
+pub mod Moves
+pub mod Book
+pub mod Kept
+pub mod Lawful
+pub mod Fitting
+pub mod Calls

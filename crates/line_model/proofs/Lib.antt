@@ -1,0 +1,16 @@
+pub mod Lists
+pub mod Ranks
+pub mod Seats
+pub mod Walk
+pub mod Cells
+pub mod Chains
+pub mod Touches
+pub mod Distances
+pub mod Does
+pub mod Others
+pub mod Begins
+pub mod Releases
+pub mod Fresh
+pub mod Laws
+pub mod Registers
+pub mod Listing

@@ -1,0 +1,9 @@
+pub mod Nodes
+pub mod Within
+pub mod Seats
+pub mod Line
+pub mod Registers
+pub mod Distance
+pub mod Meaning
+pub mod Sound
+pub mod Fresh

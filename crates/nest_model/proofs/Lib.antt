@@ -1,0 +1,17 @@
+pub mod Orders
+pub mod Count
+pub mod Heap
+pub mod Sequential
+pub mod Agree
+pub mod Writes
+pub mod Move
+pub mod Fine
+pub mod Kept
+pub mod Places
+pub mod View
+pub mod Stations
+pub mod Touches
+pub mod Begins
+pub mod Laws
+pub mod Made
+pub mod Walks

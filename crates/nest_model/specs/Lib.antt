@@ -1,0 +1,9 @@
+pub mod Ends
+pub mod Cells
+pub mod Table
+pub mod Model
+pub mod Chain
+pub mod Live
+pub mod Meaning
+pub mod Sound
+pub mod Making

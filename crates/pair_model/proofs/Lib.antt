@@ -1,0 +1,5 @@
+pub mod PairLaws
+pub mod PairListed
+pub mod PairMaking
+pub mod PairSides
+pub mod PairStations

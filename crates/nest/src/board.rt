@@ -102,7 +102,7 @@ pub impl<K: Key> Board for Nest<K> as NestBoard {
     }
 
     fn show(&self, list: &mut [K]) -> bool {
-        if self.items() > list.len() {
+        if self.count() > list.len() {
             return false;
         }
         self.list(list);

@@ -24,8 +24,6 @@ use Rattle.floor_model.specs.Floor.{Floor, isUncounted, refuse-if, taken-unles
 use Rattle.floor_model.proofs.Lists.{impossible}
 use Rattle.floor_model.proofs.Stations.{uncounted-some}
 
--- ASKING THE STATIONS
-
 pub not-uncounted : {Op Answer : Type 0} (st : Station Op Answer) → ((o : Op) → st ≡ Uncounted o → ⊥) → isUncounted st ≡ false
 not-uncounted Free n = refl
 not-uncounted (Uncounted o) n = absurd (n o refl)
@@ -68,8 +66,6 @@ module _ {Model Plain Op Answer : Type 0} (means : Meaning Model Plain Op Answer
       (λ d. ap (λ x. x && free-to means m n) (subst (λ x. isFree (means .station m x) ≡ false) (sym d) e))
       (λ d. ap (λ x. isFree (means .station m (suc n)) && x) (free-fails n p lo (omega arith) e) ∙ and-false _)
       (cases-eq (suc n) p)
-
--- TAKEN CALLS
 
 -- what is not sent back is taken
 pub taken : {X T : Type 0} (r : Option Refusal) (was : X) (made : X × T) → r ≡ None → taken-unless r was made ≡ (made .0, Ok (made .1))

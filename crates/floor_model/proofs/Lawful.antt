@@ -72,8 +72,7 @@ module _ {Model Plain Op Answer Item : Type 0} (plain : Machine Plain Op Answer 
         kept-on plain steps means sound laws limit (reached earlier) (events earlier ++ h) i _ _
         (moves plain steps means sound laws (reached earlier) (i .sound-board) (i .same-limit) c)
 
-    -- LINES STAY
-
+    -- a move leaves the first w lines as they are
     line-stays : (w : ℕ) (t u : State Model Op Answer) (e : Event Op Answer Item) → Move plain steps means sound t u e → w ≤ t .floor .written →
         (w ≤ u .floor .written) × (take w (u .ledger) ≡ take w (t .ledger))
     line-stays w t u e (sends-back c) l = (l, refl)
@@ -91,8 +90,6 @@ module _ {Model Plain Op Answer Item : Type 0} (plain : Machine Plain Op Answer 
         let j = kept-after earlier in
         let x = line-stays (s .floor .written) (reached earlier) _ _ (moves plain steps means sound laws (reached earlier) (j .sound-board) (j .same-limit) c) (i .0) in
         (x .0, x .1 ∙ i .1)
-
-    -- A TOUCH OF A WAITING STATION IS TAKEN
 
     abbrev Taken : ℕ → Event Op Answer Item → Type 0
     Taken p e = (t : Outcome) × (a : Option Answer) × (e ≡ touched p t a)
@@ -123,8 +120,7 @@ module _ {Model Plain Op Answer Item : Type 0} (plain : Machine Plain Op Answer 
         let room = k .room in let same = k .same-limit in
         touch-goes p _ _ _ _ (le-ltb (length (s .ledger)) (s .floor .limit) (omega arith)) (waiting-there p _ refl w) (waiting-busy _ w) w
 
-    -- A WAITING STATION IS SOON READY
-
+    -- each undisturbed call brings a waiting station nearer, or leaves it as far as it was
     module _ (p : ℕ) where
       abbrev Waits : State Model Op Answer → Type 0
       Waits t = isWaiting (means .station (t .floor .board) p) ≡ true

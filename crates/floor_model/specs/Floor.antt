@@ -70,8 +70,6 @@ tellsReady told.Counted = false
 tellsReady told.CountedReady = true
 tellsReady told.Ready = true
 
--- SENDING BACK
-
 -- a reason that stands comes before the reasons after it
 abbrev pub refuse-if : Bool → Refusal → Option Refusal → Option Refusal
 refuse-if b c rest = cond b (Some c) rest
@@ -138,8 +136,6 @@ module _ {Model Plain Op Answer : Type 0} (means : Meaning Model Plain Op Answer
     pub turns-room : length (f .turns) ≡ 17
     pub low-turns : (p : ℕ) → turn f p ≤ f .written + uncounted (f .board)
 
--- THE LEDGER
-
 -- What a touch enters into the ledger: the operation of a station that waited uncounted, with the answer told, when the touch told that it counted.
 abbrev pub entry : {Op Answer : Type 0} → Station Op Answer → Outcome → Option Answer → Option (Op × Answer)
 entry Free t a = None
@@ -157,8 +153,6 @@ enter f p ledger (Some e) =
 -- the lines of a ledger that are written
 abbrev pub written-lines : {Model Op Answer : Type 0} → Floor Model → List (Line Op Answer) → List (Line Op Answer)
 written-lines f ledger = take (f .written) ledger
-
--- THE CALLS
 
 module _ {Model Plain Op Answer : Type 0} (steps : Steps Model Op Answer) (means : Meaning Model Plain Op Answer) where
   -- one begin of the board, and the station's turn goes up by one

@@ -1,4 +1,4 @@
-// Floors over a cell that holds one number, run.
+// Tests of floors: over a cell that holds one number, over a pair of two cells, and over a line that is full.
 
 #[cfg(test)]
 mod tests {
@@ -14,6 +14,17 @@ mod tests {
     use keys::refusal::Refusal;
     use keys::refusal::RefusalDebug;
     use keys::refusal::RefusalPartialEq;
+    use line::board::LineBoard;
+    use line_model::node::Node;
+    use line_model::node::NodeClone;
+    use line_model::seat::Seat;
+    use line_model::seat::SeatClone;
+    use pair::pair::Pair;
+    use pair::pair::PairBoard;
+    use plain_model::line_op::LineOp;
+    use plain_model::side::Side;
+    use plain_model::side::SideDebug;
+    use plain_model::side::SidePartialEq;
     use std::test::*;
     use swap_cell::swap_cell::SwapCell;
     use swap_cell::swap_cell::SwapCellBoard;
@@ -133,5 +144,54 @@ mod tests {
         let mut list = [5, 6];
         check_eq(floor.show(&mut list), Ok(()))?;
         check_eq(list, [9, 6])
+    }
+
+    // A floor over two cells side by side, which serves as many stations as the smaller.
+    #[test]
+    fn pairs() -> Result<(), Fail> {
+        let blank = Line {
+            station: 0,
+            turn: 0,
+            operation: Side::First(0),
+            answer: Side::First(0),
+        };
+        let mut ledger = [blank; 2];
+        let mut floor = OpenFloor::open(Pair::new(SwapCell::new(2), SwapCell::new(3)), 2);
+        check_eq(
+            floor.start(3, &Side::Second(7)),
+            Err(Refusal::NoSuchStation),
+        )?;
+        check_eq(floor.start(1, &Side::First(7)), Ok(()))?;
+        check_eq(floor.start(2, &Side::Second(8)), Ok(()))?;
+        check_eq(
+            floor.touch(2, &mut ledger),
+            Ok((Outcome::CountedReady, Some(Side::Second(0)))),
+        )?;
+        check_eq(
+            floor.touch(1, &mut ledger),
+            Ok((Outcome::CountedReady, Some(Side::First(0)))),
+        )?;
+        check(floor.written() == 2)?;
+        check(ledger[0].station == 2 && ledger[0].operation == Side::Second(8))?;
+        check(ledger[1].station == 1 && ledger[1].operation == Side::First(7))?;
+        let mut list = [Side::First(1); 3];
+        check_eq(floor.show(&mut list), Ok(()))?;
+        check_eq(list, [Side::First(7), Side::Second(8), Side::First(1)])
+    }
+
+    // A line with one node has no space for a second put, and has for a take.
+    #[test]
+    fn space(rt: LibcRuntime) -> Result<(), Fail> {
+        let node = Node {
+            element: 0u8,
+            next: None,
+        };
+        let nodes = vec![in rt.alloc(); node; 2]?;
+        let seats = vec![in rt.alloc(); Seat::<u8>::Free; 3]?;
+        check_eq(line::Line::check(3, 1, &nodes, &seats), Ok(()))?;
+        let mut floor = OpenFloor::open(line::Line::new(3, 1, nodes, seats), 8);
+        check_eq(floor.start(1, &LineOp::Put(5)), Ok(()))?;
+        check_eq(floor.start(2, &LineOp::Put(6)), Err(Refusal::NoSpace))?;
+        check_eq(floor.start(2, &LineOp::Take), Ok(()))
     }
 }

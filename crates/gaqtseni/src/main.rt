@@ -1,5 +1,7 @@
 // A day in two shops, from the morning's hanging to the closing summary: sizes hang in the nest, tickets queue in the
 // line, one size runs out of cloth, and the tickets are taken in turn.
+use boards::outcome::Outcome;
+use floor::OpenFloor;
 use keys::cut_ticket::CutTicket;
 use keys::cut_ticket::calls::CutTicketDisplay;
 use keys::cut_ticket::calls::CutTicketText;
@@ -16,13 +18,9 @@ use keys::size_label::WaistSize;
 use keys::size_label::calls::SizeLabelKey;
 use keys::size_label::calls::SizeLabelText;
 use keys::text::Text;
-use plain::plain_line::PlainLine;
-use plain::plain_line::PlainLineMachine;
-use plain::plain_machine::PlainMachine;
-use plain::plain_nest::PlainNest;
-use plain::plain_nest::PlainNestMachine;
-use plain::plain_pair::PlainPair;
-use plain::plain_pair::PlainPairMachine;
+use line::board::LineBoard;
+use nest::board::NestBoard;
+use pair::pair::PairBoard;
 use plain_model::line_op::LineAnswer;
 use plain_model::line_op::LineOp;
 use plain_model::nest_op::NestAnswer;
@@ -33,6 +31,9 @@ use plain_model::printed::NestAnswerText;
 use plain_model::printed::NestOpText;
 use plain_model::printed::SideDisplay;
 use plain_model::side::Side;
+use shop::opening::ShopBoard;
+use shop::opening::ShopLine;
+use shop::opening::open_shop;
 use std::error::AnyError;
 
 // An element of a line that names a key of the nest.
@@ -59,38 +60,108 @@ impl Named for PlotOrder as PlotOrderNamed {
 }
 
 // A refusal as an error of the program.
-fn checked<T: Drop>(result: Result<T, Refusal>) -> Result<T, AnyError> {
-    match result {
-        Ok(value) => Ok(value),
-        Err(Refusal::NoMemory) => Err("memory is lacking".into()),
-        Err(Refusal::OutOfRange) => Err("a number is out of its range".into()),
-        Err(_) => Err("a call was sent back".into()),
+fn failed(refusal: Refusal) -> AnyError {
+    match refusal {
+        Refusal::NoMemory => "memory is lacking".into(),
+        Refusal::OutOfRange => "a number is out of its range".into(),
+        _ => "a call was sent back".into(),
     }
 }
 
-// Applies an operation and prints it with its answer.
-fn work<K: Key + Text, E: Copy + Text>(
+fn checked<T>(result: Result<T, Refusal>) -> Result<T, AnyError> {
+    match result {
+        Ok(value) => Ok(value),
+        Err(refusal) => Err(failed(refusal)),
+    }
+}
+
+// A floor with its ledger, as a host holds them.
+#[derive(Drop)]
+struct Shop<K: Key, E: Copy> {
+    floor: OpenFloor<ShopBoard<K, E>>,
+    ledger: Vec<ShopLine<K, E>>,
+}
+
+// Touches the station, if it waits. Says whether it still waits.
+fn advance<K: Key, E: Copy>(shop: &mut Shop<K, E>, station: usize) -> Result<bool, AnyError> {
+    match shop.floor.touch(station, &mut shop.ledger) {
+        Ok((Outcome::CountedReady, _)) => Ok(false),
+        Ok((Outcome::Ready, _)) => Ok(false),
+        Ok(_) => Ok(true),
+        Err(Refusal::AlreadyReady) => Ok(false),
+        Err(refusal) => Err(failed(refusal)),
+    }
+}
+
+// Lets the stations from 1 to a number touch in turn until none of them waits.
+fn finish<K: Key, E: Copy>(shop: &mut Shop<K, E>, stations: usize) -> Result<(), AnyError> {
+    // no operation of a day this short needs more rounds
+    for _ in 0..1000 {
+        let mut waits = false;
+        for place in 0..stations {
+            if advance(shop, place + 1)? {
+                waits = true;
+            }
+        }
+        if !waits {
+            return Ok(());
+        }
+    }
+    Err("an operation takes too long".into())
+}
+
+// Collects the answer of a station's operation and prints both.
+fn collect<K: Key + Text, E: Copy + Text>(
     rt: &LibcRuntime,
-    shop: &mut PlainPair<PlainNest<K>, PlainLine<E>>,
-    op: Side<NestOp<K>, LineOp<E>>,
+    shop: &mut Shop<K, E>,
+    station: usize,
+    op: &Side<NestOp<K>, LineOp<E>>,
 ) -> Result<Side<NestAnswer, LineAnswer<E>>, AnyError> {
-    let answer = checked(shop.apply(&op))?;
+    let answer = checked(shop.floor.collect(station))?;
     println!(rt, "{op} {answer}")?;
     Ok(answer)
+}
+
+// One station does an operation while the others rest.
+fn alone<K: Key + Text, E: Copy + Text>(
+    rt: &LibcRuntime,
+    shop: &mut Shop<K, E>,
+    op: Side<NestOp<K>, LineOp<E>>,
+) -> Result<Side<NestAnswer, LineAnswer<E>>, AnyError> {
+    checked(shop.floor.start(1, &op))?;
+    finish(shop, 1)?;
+    collect(rt, shop, 1, &op)
+}
+
+// While one station adds a key another looks for it, touch by touch in turn.
+fn hang<K: Key + Text, E: Copy + Text>(
+    rt: &LibcRuntime,
+    shop: &mut Shop<K, E>,
+    key: K,
+) -> Result<(), AnyError> {
+    let add = Side::First(NestOp::Add(key));
+    let find = Side::First(NestOp::Find(key));
+    checked(shop.floor.start(1, &add))?;
+    checked(shop.floor.start(2, &find))?;
+    finish(shop, 2)?;
+    let _ = collect(rt, shop, 1, &add)?;
+    let _ = collect(rt, shop, 2, &find)?;
+    Ok(())
 }
 
 // Takes one element: it is spread where its key still hangs, else set aside. Says which, or that the line is empty.
 fn take_one<E: Copy + Text + Named>(
     rt: &LibcRuntime,
-    shop: &mut PlainPair<PlainNest<E::Key>, PlainLine<E>>,
+    shop: &mut Shop<E::Key, E>,
 ) -> Result<Option<bool>, AnyError>
 where
     E::Key: Key + Text,
 {
-    let Side::Second(LineAnswer::Took(element)) = work(rt, shop, Side::Second(LineOp::Take))? else {
+    let Side::Second(LineAnswer::Took(element)) = alone(rt, shop, Side::Second(LineOp::Take))?
+    else {
         return Ok(None);
     };
-    let hangs = match work(rt, shop, Side::First(NestOp::Find(element.key())))? {
+    let hangs = match alone(rt, shop, Side::First(NestOp::Find(element.key())))? {
         Side::First(NestAnswer::Yes) => true,
         _ => false,
     };
@@ -101,8 +172,47 @@ where
     }
     Ok(Some(hangs))
 }
+// Takes every element and prints how many were spread and how many set aside.
+fn take_all<E: Copy + Text + Named>(
+    rt: &LibcRuntime,
+    shop: &mut Shop<E::Key, E>,
+    number: usize,
+) -> Result<(), AnyError>
+where
+    E::Key: Key + Text,
+{
+    let mut spread: usize = 0;
+    let mut aside: usize = 0;
+    for _ in 0..number {
+        match take_one(rt, shop)? {
+            Some(true) => spread = spread.saturating_add(1),
+            Some(false) => aside = aside.saturating_add(1),
+            None => {}
+        }
+    }
+    println!(rt, "{spread} spread, {aside} set aside")?;
+    Ok(())
+}
 
-// A whole day: hangs the keys, queues the elements, drops the key that ran out, and takes every element.
+// Closes the floor and prints its ledger.
+fn close<K: Key + Text, E: Copy + Text>(
+    rt: &LibcRuntime,
+    shop: Shop<K, E>,
+) -> Result<(), AnyError> {
+    checked(shop.floor.check_close())?;
+    let Shop { floor, ledger } = shop;
+    let closed = floor.close();
+    for line in checked(closed.lines(&ledger))? {
+        println!(
+            rt,
+            "(entry {} {} {} {})",
+            line.station, line.turn, line.operation, line.answer
+        )?;
+    }
+    Ok(())
+}
+
+// A whole day: hangs the keys, queues the elements, drops the key that ran out, takes every element, and closes.
 fn day<E: Copy + Text + Named>(
     rt: &LibcRuntime,
     keys: &[E::Key],
@@ -112,28 +222,20 @@ fn day<E: Copy + Text + Named>(
 where
     E::Key: Key + Text,
 {
-    let mut shop = PlainPair {
-        first: PlainNest::new(rt.alloc()),
-        second: PlainLine::new(rt.alloc()),
+    let Some(first) = elements.first() else {
+        return Ok(());
     };
+    let (floor, ledger) = checked(open_shop(rt.alloc(), 3, 64, 8, 8, ran_out, *first))?;
+    let mut shop = Shop { floor, ledger };
     for key in keys {
-        let _ = work(rt, &mut shop, Side::First(NestOp::Add(*key)))?;
+        hang(rt, &mut shop, *key)?;
     }
     for element in elements {
-        let _ = work(rt, &mut shop, Side::Second(LineOp::Put(*element)))?;
+        let _ = alone(rt, &mut shop, Side::Second(LineOp::Put(*element)))?;
     }
-    let _ = work(rt, &mut shop, Side::First(NestOp::Drop(ran_out)))?;
-    let mut spread: usize = 0;
-    let mut aside: usize = 0;
-    for _ in elements {
-        match take_one(rt, &mut shop)? {
-            Some(true) => spread = spread.saturating_add(1),
-            Some(false) => aside = aside.saturating_add(1),
-            None => {}
-        }
-    }
-    println!(rt, "{spread} spread, {aside} set aside")?;
-    Ok(())
+    let _ = alone(rt, &mut shop, Side::First(NestOp::Drop(ran_out)))?;
+    take_all(rt, &mut shop, elements.len())?;
+    close(rt, shop)
 }
 
 // A waist and a leg, as a label.

@@ -12,9 +12,8 @@ use crate::Nest;
 use crate::nodes::BACK;
 use crate::nodes::FRONT;
 use crate::nodes::node;
-use keys::key::Key;
 
-impl<K: Key> Nest<K> {
+impl<K: Copy> Nest<K> {
     // The key of a node, if it counts among the contents where it is reached.
     fn listed(&self, n: usize) -> Option<K>
         ensures { λ r. ⌜ r ≡ listedBy (cellAt (modelOf (now (self .entry)) .nodes) n .mark) (keyAt (modelOf (now (self .entry)) .nodes) n) ⌝ }

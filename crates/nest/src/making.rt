@@ -21,7 +21,7 @@ use keys::refusal::Refusal;
 use nest_model::node::Node;
 use nest_model::work::Work;
 
-impl<K: Key> Nest<K> {
+impl<K: Copy> Nest<K> {
     // Can a nest be made with so many stations and nodes for keys, over these tables? Their content does not matter, and
     // they may be longer than needed.
     pub fn check(
@@ -43,7 +43,9 @@ impl<K: Key> Nest<K> {
         }
         Ok(())
     }
+}
 
+impl<K: Key> Nest<K> {
     // An empty nest over tables that `check` accepted, which are cut to the length that is needed.
     pub fn new(stations: usize, size: usize, nodes: Vec<Node<K>>, works: Vec<Work<K>>) -> Nest<K>
         requires { ⌜ refusal stations size (vec-len nodes) (vec-len works) ≡ accepted ⌝ }
@@ -82,7 +84,7 @@ fn is_long(stations: usize, size: usize, nodes: usize, works: usize) -> bool
 }
 
 // Lets the front lead to the back.
-fn join<K: Key>(nodes: &mut Vec<Node<K>>)
+fn join<K: Copy>(nodes: &mut Vec<Node<K>>)
     requires { ⌜ 2 ≤ length (vec-items (now nodes)) ⌝ }
     ensures { λ _. ⌜ vec-items (now (nodes .exit)) ≡ joined (vec-items (now (nodes .entry))) ⌝ }
 {
@@ -91,7 +93,7 @@ fn join<K: Key>(nodes: &mut Vec<Node<K>>)
 }
 
 // Frees every station of a table.
-fn clear<K: Key>(works: &mut Vec<Work<K>>)
+fn clear<K: Copy>(works: &mut Vec<Work<K>>)
     ensures { λ _. ⌜ vec-items (now (works .exit)) ≡ replicate (vec-len (now (works .entry))) Free ⌝ }
 {
     for i in 0..works.len() {

@@ -48,7 +48,7 @@ fn is_same(cell: Cell, old: Cell) -> bool
     cell.next == old.next && cell.mark == old.mark
 }
 
-impl<K: Key> Nest<K> {
+impl<K: Copy> Nest<K> {
     // A node of the table.
     pub(crate) fn find(&self, n: usize) -> Option<Node<K>>
         ensures { λ r. ⌜ r ≡ nth (modelOf (now (self .entry)) .nodes) n ⌝ }
@@ -66,6 +66,31 @@ impl<K: Key> Nest<K> {
         }
     }
 
+    // Sets the cell of a node of the table.
+    pub(crate) fn write(&mut self, n: usize, cell: Cell)
+        ensures { λ _. ⌜ modelOf (now (self .exit)) ≡ nodesOf (modelOf (now (self .entry))) (written (modelOf (now (self .entry)) .nodes) n cell) ⌝ }
+    {
+        if n < self.nodes.len() {
+            self.nodes[n].cell = cell;
+        }
+    }
+
+    // Sets a node's cell to `new` if it is `old`. Tells whether it set the cell.
+    pub(crate) fn compare_and_set(&mut self, named: Option<usize>, old: Cell, new: Cell) -> bool
+        ensures told { λ r. ⌜ r ≡ holds (modelOf (now (self .entry)) .nodes) named old ⌝ }
+        ensures left { λ _. ⌜ modelOf (now (self .exit)) ≡ nodesOf (modelOf (now (self .entry))) (exchanged (modelOf (now (self .entry)) .nodes) named old new) ⌝ }
+    {
+        let n = node(named);
+        if is_same(self.cell(n), old) {
+            self.write(n, new);
+            true
+        } else {
+            false
+        }
+    }
+}
+
+impl<K: Key> Nest<K> {
     // Is the node's key after this one?
     pub(crate) fn is_after(&self, n: usize, key: K) -> bool
         ensures { λ r. ⌜ r ≡ isAfter before key (keyAt (modelOf (now (self .entry)) .nodes) n) ⌝ }
@@ -90,29 +115,6 @@ impl<K: Key> Nest<K> {
                 Some(node) => !key.is_before(&node.key) && !node.key.is_before(&key),
                 None => false,
             },
-        }
-    }
-
-    // Sets the cell of a node of the table.
-    pub(crate) fn write(&mut self, n: usize, cell: Cell)
-        ensures { λ _. ⌜ modelOf (now (self .exit)) ≡ nodesOf (modelOf (now (self .entry))) (written (modelOf (now (self .entry)) .nodes) n cell) ⌝ }
-    {
-        if n < self.nodes.len() {
-            self.nodes[n].cell = cell;
-        }
-    }
-
-    // Sets a node's cell to `new` if it is `old`. Tells whether it set the cell.
-    pub(crate) fn compare_and_set(&mut self, named: Option<usize>, old: Cell, new: Cell) -> bool
-        ensures told { λ r. ⌜ r ≡ holds (modelOf (now (self .entry)) .nodes) named old ⌝ }
-        ensures left { λ _. ⌜ modelOf (now (self .exit)) ≡ nodesOf (modelOf (now (self .entry))) (exchanged (modelOf (now (self .entry)) .nodes) named old new) ⌝ }
-    {
-        let n = node(named);
-        if is_same(self.cell(n), old) {
-            self.write(n, new);
-            true
-        } else {
-            false
         }
     }
 }

@@ -5,7 +5,6 @@ ghost use Rattle.nest_model.specs.Model.{workAt, with, space as hasSpace, enter
 ghost use Rattle.nest.specs.View.{modelOf};
 use crate::Nest;
 use crate::nodes::link;
-use keys::key::Key;
 use nest_model::node::Node;
 use nest_model::phase::Phase;
 use nest_model::registers::Registers;
@@ -21,7 +20,7 @@ const UNSET: Registers = Registers {
     keptnext: None,
 };
 
-impl<K: Key> Nest<K> {
+impl<K: Copy> Nest<K> {
     // What a station is at. Stations are numbered from 1, and one that does not exist is free.
     pub(crate) fn work(&self, station: usize) -> Work<K>
         ensures { λ r. ⌜ r ≡ workAt (modelOf (now (self .entry)) .works) station ⌝ }

@@ -54,7 +54,7 @@ fn kept(registers: Registers, here: Option<usize>, cell: Cell) -> Registers
     now
 }
 
-impl<K: Key> Nest<K> {
+impl<K: Copy> Nest<K> {
     // The registers after the cell was read, by N1 to N3. The other touches read no cell before they set one.
     pub(crate) fn readings(&self, phase: Phase, registers: Registers) -> Registers
         ensures { λ r. ⌜ r ≡ readingsOf phase registers (cellAt (modelOf (now (self .entry)) .nodes)) ⌝ }
@@ -66,7 +66,9 @@ impl<K: Key> Nest<K> {
             Phase::N4 | Phase::N5 | Phase::N6 => registers,
         }
     }
+}
 
+impl<K: Key> Nest<K> {
     // Is the key's place between `here` and `next`?
     fn is_place(&self, registers: Registers, key: K) -> bool
         ensures { λ r. ⌜ r ≡ isPlace before (modelOf (now (self .entry)) .nodes) registers key ⌝ }
@@ -108,6 +110,8 @@ impl<K: Key> Nest<K> {
     {
         let key = key_of(op);
         let marked = registers.mark == Some(true);
+        let (here, next) = (registers.here, registers.next);
+        let (keep, keptnext) = (registers.keep, registers.keptnext);
         match (phase, marked) {
             (Phase::N1 | Phase::N2, false) if self.is_place(registers, key) => self.decide(
                 op,
@@ -119,26 +123,18 @@ impl<K: Key> Nest<K> {
             (Phase::N3, true) => Step::Goes(Phase::N3),
             (Phase::N3, false) => Step::Goes(Phase::N4),
             (Phase::N4, _) => {
-                self.compare_and_set(
-                    registers.keep,
-                    link(registers.keptnext),
-                    link(registers.here),
-                );
+                self.compare_and_set(keep, link(keptnext), link(here));
                 Step::Goes(Phase::N1)
             }
             (Phase::N5, _) => {
-                if self.compare_and_set(registers.here, link(registers.next), link(own)) {
+                if self.compare_and_set(here, link(next), link(own)) {
                     Step::Says(NestAnswer::Added)
                 } else {
                     Step::Goes(Phase::N1)
                 }
             }
             (Phase::N6, _) => {
-                if self.compare_and_set(
-                    registers.here,
-                    link(registers.next),
-                    gone(registers.next),
-                ) {
+                if self.compare_and_set(here, link(next), gone(next)) {
                     Step::Says(NestAnswer::Dropped)
                 } else {
                     Step::Goes(Phase::N1)

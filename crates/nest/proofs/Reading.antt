@@ -1,7 +1,8 @@
 -- What a read of a table by place gives.
 use mathlib.Core.Path.{_≡_, refl, sym, ap, _∙_}
 use mathlib.Core.List.{List}
-use Prim.Native.Nat.{ℕ, zero, suc, _-_, _≤_}
+use Prim.Native.Nat.{ℕ, zero, suc, _-_, _≤_, _<_, min}
+use native.Mathlib.Nat.{min-eq-left}
 use native.Mathlib.Omega.{arith}
 use lib.ListN.{length, getD, List·getD-eq-default}
 use lib.Seq.{set-out}
@@ -36,3 +37,7 @@ module _ {K : Type 0} where
 
   pub put-zero : (ws : List (Work K)) (p : ℕ) (w : Work K) → p ≡ 0 → putAt ws p w ≡ ws
   put-zero ws p w e = rw e
+
+-- a number that fits 64 bits is the smaller one beside the largest that does
+pub saturated : (n m : ℕ) → n ≡ m → n < 18446744073709551616 → n ≡ min m 18446744073709551615
+saturated n m e h = let small : m ≤ 18446744073709551615 = omega (arith, e) in e ∙ sym (min-eq-left small)

@@ -1,4 +1,4 @@
 // The floor of a shop: a nest and a line side by side, with a ledger, made from four numbers.
-pub mod making;
+mod making;
 pub mod opening;
-pub mod tables;
+mod tables;

@@ -1,5 +1,7 @@
 // The time of a touch. For each workload its name, the number of touches and a checksum are printed; with the argument
 // `times` each is run several times, and the nanoseconds a touch of the fastest run are printed too.
+#![tactic(auto)]
+
 mod busy;
 mod checksum;
 mod day;

@@ -1,4 +1,6 @@
 // Runs every script of the folder and compares what it prints with the report beside it. The index names them.
+#![tactic(auto)]
+
 use script::run::run;
 use std::alloc::Global;
 use std::fs;

@@ -1,4 +1,5 @@
 // Tests of floors: over a cell that holds one number, over a pair of two cells, and over a line that is full.
+#![tactic(auto)]
 
 #[cfg(test)]
 mod tests {

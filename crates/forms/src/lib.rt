@@ -1,4 +1,6 @@
 // Reading the forms of a script, in one text for both trades.
+#![tactic(auto)]
+
 pub mod call;
 pub mod opening;
 pub mod operation;

@@ -1,5 +1,7 @@
 // A day in two shops, from the morning's hanging to the closing summary: sizes hang in the nest, tickets queue in the
 // line, one size runs out of cloth, and the tickets are taken in turn.
+#![tactic(auto)]
+
 use anyhow::anyhow;
 use boards::board::Board;
 use boards::outcome::Outcome;

@@ -1,9 +1,14 @@
 -- That each order on keys is total: by a view of the key as two numbers, compared by the first and then by the second.
-use Rattle.std.specs.Prelude.{◌≡◌, ℕ, ◌<◌, ◌≤◌, Bool, true, false, cond, ◌⊎◌, Ok, ◌==◌, ◌≢◌, refl}
+use Rattle.std.specs.Prelude.{◌≡◌, ℕ, ◌<◌, Bool, true, false, cond, ◌⊎◌, Ok, ◌==◌, ◌&&◌, ◌≢◌, refl}
 use Rattle.std.proofs.Common.{sym, ap, subst, ◌∙◌, inl, inr, arith}
+use Rattle.std.specs.declared.cmp.Ordering.{Ordering}
+use Rattle.std.specs.declared.cmp.Ordering.TheVariants.{Less, Equal, Greater}
+use Rattle.std.specs.Ordering.{MatchOrdering, is_eq, eq_by_cmp}
+use Rattle.std.specs.Cmp.{IsTotalOrder, strict}
+use Rattle.std.specs.Bool.{Decides, one_answer}
 use Rattle.std.proofs.lemmas.Bool.Decides.{nat_tests}
-use Rattle.std.proofs.lemmas.Bool.{cases_order}
-use Rattle.keys.specs.Order.{ExactlyOne, the_first, the_second, the_third, Total, lexicographic}
+use Rattle.std.proofs.lemmas.Bool.{cases_order, false≢true}
+use Rattle.keys.specs.Order.{ExactlyOne, the_first, the_second, the_third, Total, compared, lexicographic}
 use Rattle.keys.specs.Ranges.{wearable, catalogued}
 use Rattle.keys.specs.declared.size_label.LetterSize.{LetterSize}
 use Rattle.keys.specs.declared.size_label.LetterSize.TheVariants.{Xs, S, M, L, Xl, Xxl}
@@ -134,3 +139,63 @@ same_piece p q e f = let a = piece_made p in let b = piece_made q in cc
 
 pub piece_total : Total pieces.before
 piece_total = total_by_view (λ p. p.letter) (λ p. p.number) same_piece pieces.before (λ p q. refl)
+
+-- Keys compare by a total order as a total order of std does.
+module _ {K : Type 0} {before : K → K → Bool} (t : Total before) where
+  is_false : (b : Bool) → b ≢ true → b ≡ false
+  is_false true n = absurd (n refl)
+  is_false false n = refl
+
+  ranked_by : (x y : K) → ExactlyOne (before x y ≡ true) (before y x ≡ true) (x ≡ y) →
+      MatchOrdering (compared before x y) (before x y ≡ true) (x ≡ y) (before y x ≡ true)
+  ranked_by x y (the_first h n m) =
+      subst (λ b. MatchOrdering (cond b Less (cond (before y x) Greater Equal)) (before x y ≡ true) (x ≡ y) (before y x ≡ true)) (sym h) h
+  ranked_by x y (the_second n h m) =
+      subst (λ b. MatchOrdering (cond b Less (cond (before y x) Greater Equal)) (before x y ≡ true) (x ≡ y) (before y x ≡ true)) (sym (is_false (before x y) n))
+      (subst (λ b. MatchOrdering (cond b Greater Equal) (before x y ≡ true) (x ≡ y) (before y x ≡ true)) (sym h) h)
+  ranked_by x y (the_third n m e) =
+      subst (λ b. MatchOrdering (cond b Less (cond (before y x) Greater Equal)) (before x y ≡ true) (x ≡ y) (before y x ≡ true)) (sym (is_false (before x y) n))
+      (subst (λ b. MatchOrdering (cond b Greater Equal) (before x y ≡ true) (x ≡ y) (before y x ≡ true)) (sym (is_false (before y x) m)) e)
+
+  not_self : (x : K) → ExactlyOne (before x x ≡ true) (before x x ≡ true) (x ≡ x) → before x x ≢ true
+  not_self x (the_first h n m) = n
+  not_self x (the_second n h m) = n
+  not_self x (the_third n m e) = n
+
+  pub compared_total : IsTotalOrder (compared before)
+  compared_total =
+      strict (λ x y. before x y ≡ true) (λ x. not_self x (t.exactly_one x x)) t.carries (compared before) (λ x y. ranked_by x y (t.exactly_one x y))
+
+  -- what compares as equal is one and the same key
+  pub compared_equal : (x y : K) → Decides (eq_by_cmp (compared before) x y) (x ≡ y)
+  compared_equal x y = decided_by (compared before x y) (ranked_by x y (t.exactly_one x y))
+    where
+      decided_by : (r : Ordering) → MatchOrdering r (before x y ≡ true) (x ≡ y) (before y x ≡ true) → Decides (is_eq r) (x ≡ y)
+      decided_by Less h = (λ e. absurd (false≢true e), λ e. absurd (not_self x (t.exactly_one x x) (subst (λ z. before x z ≡ true) (sym e) h)))
+      decided_by Equal h = (λ _. h, λ _. refl)
+      decided_by Greater h = (λ e. absurd (false≢true e), λ e. absurd (not_self x (t.exactly_one x x) (subst (λ z. before z x ≡ true) (sym e) h)))
+
+-- an equality of size labels that reads what they hold holds of what their order does not tell apart
+module _ (same : SizeLabel → SizeLabel → Bool) (letters : (a b : LetterSize) → Decides (same (Letter a) (Letter b)) (a ≡ b))
+    (apart : (a : LetterSize) (v : WaistSize) → same (Letter a) (Waist v) ≡ false) (apart' : (u : WaistSize) (b : LetterSize) → same (Waist u) (Letter b) ≡ false)
+    (waists : (u v : WaistSize) → same (Waist u) (Waist v) ≡ (u.waist == v.waist && u.leg == v.leg)) where
+  same_measures : (u v : WaistSize) → (u.waist == v.waist && u.leg == v.leg) ≡ true → u ≡ v
+  same_measures u v e =
+      let f : u.waist ≡ v.waist = grind (arith, nat_tests) in
+      let g : u.leg ≡ v.leg = grind (arith, nat_tests) in
+      same_waist u v f g
+
+  measures_same : (u v : WaistSize) → u ≡ v → (u.waist == v.waist && u.leg == v.leg) ≡ true
+  measures_same u v e =
+      let f : u.waist ≡ v.waist = ap (λ w. w.waist) e in
+      let g : u.leg ≡ v.leg = ap (λ w. w.leg) e in
+      grind (arith, nat_tests)
+
+  same_decides : (x y : SizeLabel) → Decides (same x y) (x ≡ y)
+  same_decides (Letter a) (Letter b) = (λ e. ap Letter ((letters a b).0 e), λ e. (letters a b).1 cc)
+  same_decides (Letter a) (Waist v) = (λ e. absurd (false≢true (sym (apart a v) ∙ e)), λ e. cc)
+  same_decides (Waist u) (Letter b) = (λ e. absurd (false≢true (sym (apart' u b) ∙ e)), λ e. cc)
+  same_decides (Waist u) (Waist v) = (λ e. ap Waist (same_measures u v (sym (waists u v) ∙ e)), λ e. waists u v ∙ measures_same u v cc)
+
+  pub label_ties : (x y : SizeLabel) → same x y ≡ eq_by_cmp (compared sizes.before) x y
+  label_ties x y = one_answer (same x y) (eq_by_cmp (compared sizes.before) x y) (same_decides x y) (compared_equal size_total x y)

@@ -1,4 +1,6 @@
 // Keys and elements of the two trades, their total orders, and the reasons for which a call is sent back.
+#![tactic(auto)]
+
 pub mod cut_ticket;
 pub mod key;
 pub mod piece_code;

@@ -1,4 +1,6 @@
 // The line: a strongly linearizable queue that 1 to 16 stations share, one atomic touch at a time.
+#![tactic(auto)]
+
 ghost use Rattle.std.specs.Prelude.{◌≡◌, ℕ, ◌<◌, ◌≤◌, true, length};
 ghost use Rattle.line_model.specs.Nodes.{next_of};
 ghost use Rattle.line_model.specs.Within.{in_next, in_seat, seat_at};

@@ -1,4 +1,6 @@
 // Tests of the line.
+#![tactic(auto)]
+
 #[cfg(test)]
 mod tests {
     use boards::board::Board;

@@ -1,4 +1,6 @@
 // The nest: a sorted set of keys that several stations add to, drop from and search, one touch at a time.
+#![tactic(auto)]
+
 ghost use Rattle.std.specs.Prelude.{◌≡◌, ℕ, ◌+◌, ◌≤◌, length};
 
 use nest_model::node::Node;

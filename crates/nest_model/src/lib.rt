@@ -1,4 +1,6 @@
 // The nest without its code: what its tables hold, and in specs/ and proofs/ the touch table, its meaning, its invariant and its laws.
+#![tactic(auto)]
+
 pub mod cell;
 pub mod node;
 pub mod phase;

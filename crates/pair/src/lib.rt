@@ -1,2 +1,4 @@
 // The pair of any two boards, which is a board.
+#![tactic(auto)]
+
 pub mod pair;

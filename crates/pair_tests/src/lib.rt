@@ -1,4 +1,5 @@
 // Tests of pairs: two cells, and a pair with a third cell.
+#![tactic(auto)]
 
 #[cfg(test)]
 mod tests {

@@ -1,4 +1,5 @@
 // Tests of keys, elements, orders and plain machines.
+#![tactic(auto)]
 
 #[cfg(test)]
 mod tests;

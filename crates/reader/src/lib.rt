@@ -1,4 +1,6 @@
 // Tokens, read one after another.
+#![tactic(auto)]
+
 ghost use Rattle.std.specs.Prelude.{◌≡◌};
 ghost use Rattle.std.specs.Str.{bytes_eq};
 ghost use Rattle.lex.specs.Runs.{lexeme};

@@ -1,4 +1,6 @@
 // Runs a script on the floor of a shop, and prints what it prints.
+#![tactic(auto)]
+
 use anyhow::anyhow;
 use keys::refusal::Refusal;
 use lex::fault::{Fault, FaultKind};

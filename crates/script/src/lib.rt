@@ -1,4 +1,6 @@
 // Scripts, run on the floor of a shop.
+#![tactic(auto)]
+
 mod lines;
 mod obeying;
 mod replying;

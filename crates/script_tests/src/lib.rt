@@ -1,4 +1,5 @@
 // Tests of scripts: every fault and every refusal that a script can meet, each at its place.
+#![tactic(auto)]
 
 #[cfg(test)]
 mod tests {

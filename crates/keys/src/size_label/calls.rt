@@ -5,7 +5,9 @@ ghost use Rattle.keys.specs.Sizes.{waist_size, rank as rank_of, before as comes_
 ghost use Rattle.std.specs.Cmp.Rules.{comparing};
 ghost use Rattle.std.proofs.Common.{rules};
 ghost use Rattle.std.specs.Cmp.{partial_order_from_agreeing_total};
-ghost use Rattle.keys.specs.Orders.{size_total};
+ghost use Rattle.keys.specs.Orders.{size_total, compared_total, label_ties};
+ghost use Rattle.keys.specs.contracts.size_label.LetterSize.{the_type};
+ghost use denote.Enum.Bare.{same_true, true_same};
 
 use crate::key::Key;
 use crate::range::is_within;
@@ -47,11 +49,11 @@ impl LetterSize {
 impl Ord for SizeLabel {
     ghost cmp = { λ x y. compared comes_before x y };
 
-    ghost total = { Prim.search (comparing, rules) };
+    ghost total = { compared_total size_total };
 
     ghost matches_partial_cmp = { Prim.search (comparing, rules) };
 
-    ghost matches_eq = { Prim.search (comparing, rules) };
+    ghost matches_eq = { label_ties _ (λ a b. (same_true the_type tt a b, true_same the_type a b)) (λ _ _. refl) (λ _ _. refl) (λ _ _. refl) };
 
     fn cmp(&self, other: &SizeLabel) -> Ordering {
         match (self, other) {
@@ -68,7 +70,7 @@ impl Ord for SizeLabel {
 impl PartialOrd for SizeLabel {
     ghost partial_cmp = { λ x y. Some (compared comes_before x y) };
 
-    ghost laws = { partial_order_from_agreeing_total (λ x y. compared comes_before x y) (Prim.search (comparing, rules)) (λ _ _. refl) (Prim.search (comparing, rules)) };
+    ghost laws = { partial_order_from_agreeing_total (compared comes_before) (compared_total size_total) (λ _ _. refl) (label_ties _ (λ a b. (same_true the_type tt a b, true_same the_type a b)) (λ _ _. refl) (λ _ _. refl) (λ _ _. refl)) };
 
     fn partial_cmp(&self, other: &SizeLabel) -> Option<Ordering> {
         Some(self.cmp(other))

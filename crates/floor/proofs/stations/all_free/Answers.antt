@@ -4,12 +4,12 @@ use Rattle.floor_model.specs.Floor.{free_to}
 use Rattle.floor_model.proofs.Calls.{not_free, free_next, free_fails}
 use Rattle.floor.proofs.stations.all_free.Goals as goal
 
-pub returns-in-default : goal.returns-in-default
-returns-in-default g c =
+pub returns-in_default : goal.returns-in_default
+returns-in_default g c =
     let b = g.B.Board in
     let told = c.stations-station-end.ensures.told in
     sym (free_fails b.means (b.model c.args.board.now) _ c.loop-station.station (omega arith) (omega arith)
-    (ap is_free (sym c.station.ensures) ∙ not_free _ c.in-default.not-Free))
+    (ap is_free (sym c.station.ensures) ∙ not_free _ c.in_default.not-Free))
 
 pub loop-station-preserved : goal.loop-station-preserved
 loop-station-preserved g c =

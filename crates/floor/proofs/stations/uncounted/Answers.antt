@@ -2,7 +2,7 @@ use Rattle.std.proofs.Common.{◌≡◌, ◌+◌, ◌-◌, ◌≤◌, true, fals
 use Rattle.floor_model.specs.Floor.{is_uncounted, uncounted_to}
 use Rattle.floor_model.proofs.Calls.{not_uncounted, uncounted_next}
 use Rattle.floor.proofs.stations.uncounted.Goals as goal
-use Rattle.floor.proofs.stations.uncounted.Goals.{in-Uncounted, in-default}
+use Rattle.floor.proofs.stations.uncounted.Goals.{in-Uncounted, in_default}
 
 -- the number after a round
 pub loop-station-preserved : goal.loop-station-preserved
@@ -15,9 +15,9 @@ loop-station-preserved g c =
           let e = uncounted_next b.means m c.loop-station.station true (omega arith)
           (ap is_uncounted (sym c.station.ensures ∙ w.in-Uncounted.is)) in
           (omega (arith, w.number-is), omega (arith, w.number-is))
-      | in-default w ↦
+      | in_default w ↦
           let e = uncounted_next b.means m c.loop-station.station false (omega arith)
-          (ap is_uncounted (sym c.station.ensures) ∙ not_uncounted _ w.in-default.not-Uncounted) in
+          (ap is_uncounted (sym c.station.ensures) ∙ not_uncounted _ w.in_default.not-Uncounted) in
           (omega (arith, w.number-is), omega (arith, w.number-is))
     ]
 
@@ -35,8 +35,8 @@ returns-after-station g c =
           let e = uncounted_next b.means m c.loop-station.station true (omega arith)
           (ap is_uncounted (sym c.station.ensures ∙ w.in-Uncounted.is)) in
           record { few = omega (arith, w.number-is); told = omega (arith, w.number-is) }
-      | in-default w ↦
+      | in_default w ↦
           let e = uncounted_next b.means m c.loop-station.station false (omega arith)
-          (ap is_uncounted (sym c.station.ensures) ∙ not_uncounted _ w.in-default.not-Uncounted) in
+          (ap is_uncounted (sym c.station.ensures) ∙ not_uncounted _ w.in_default.not-Uncounted) in
           record { few = omega (arith, w.number-is); told = omega (arith, w.number-is) }
     ]

@@ -6,38 +6,38 @@ use Rattle.lex.specs.Tokens.{before, lexed, tokens_of, read_part}
 use Rattle.lex.proofs.Parts.{extent_below, lexed_end, part_token, part_fault}
 use Rattle.lex.proofs.tokens.tokens.Goals as goal
 
-pub split-at-requires : goal.split-at-requires
-split-at-requires c =
+pub split_at-requires : goal.split_at-requires
+split_at-requires c =
     let some : 0 < length c.loop-rest.rest.now = search rules in
     extent_below _ _ some c.extent.ensures
 
-pub overflow-add-extent : goal.overflow-add-extent
-overflow-add-extent c =
+pub overflow_add-extent : goal.overflow_add-extent
+overflow_add-extent c =
     let some : 0 < length c.loop-rest.rest.now = search rules in
     let h = extent_below c.loop-rest.rest.now c.extent.result some c.extent.ensures in
     search rules
 
-pub returns-in-err-token : goal.returns-in-err-token
-returns-in-err-token c =
+pub returns-in_err-token : goal.returns-in_err-token
+returns-in_err-token c =
     let some : 0 < length c.loop-rest.rest.now = search rules in
-    let parts = c.split-at.ensures in
-    let p = err_from_is_err_and c.from-residual.result c.from-residual.ensures.1 in
+    let parts = c.split_at.ensures in
+    let p = err_from_is_err_and c.from_residual.result c.from_residual.ensures.1 in
     rw (p.1, p.2)
-    (part_fault c.args.number (length c.args.line.now - length c.loop-rest.rest.now + 1) c.extent.result c.loop-rest.rest.now c.split-at.result.0.now c.split-at.result.1.now some c.extent.ensures parts.front parts.back c.place-of-place.result c.place-of-place.ensures
-    (vec_items c.loop-rest.found) (vec_items c.loop-rest.found) (tokens_of c.args.number c.args.line.now) c.loop-rest.invariant.1 c.in-err-token.field-0.0
-    c.in-err-token.ensures)
+    (part_fault c.args.number (length c.args.line.now - length c.loop-rest.rest.now + 1) c.extent.result c.loop-rest.rest.now c.split_at.result.0.now c.split_at.result.1.now some c.extent.ensures parts.front parts.back c.place_of-place.result c.place_of-place.ensures
+    (vec_items c.loop-rest.found) (vec_items c.loop-rest.found) (tokens_of c.args.number c.args.line.now) c.loop-rest.invariant.1 c.in_err-token.field-0.0
+    c.in_err-token.ensures)
 
-pub loop-rest-preserved-in-ok-push : goal.loop-rest-preserved-in-ok-push
-loop-rest-preserved-in-ok-push c =
-    let pushed = chosen _ _ _ _ c.push.ensures.items (ap is_ok c.in-ok-push.was) in
+pub loop-rest-preserved-in_ok-push : goal.loop-rest-preserved-in_ok-push
+loop-rest-preserved-in_ok-push c =
+    let pushed = chosen _ _ _ _ c.push.ensures.items (ap is_ok c.in_ok-push.was) in
     let some : 0 < length c.loop-rest.rest.now = omega arith in
-    let parts = c.split-at.ensures in
-    let n : length c.split-at.result.1.now + (c.extent.result + 1) ≡ length c.loop-rest.rest.now = parts.back_len in
-    let here : length c.args.line.now - length c.loop-rest.rest.now + 1 + 1 + c.extent.result ≡ length c.args.line.now - length c.split-at.result.1.now + 1 = omega arith in
-    let P : ℕ → Type 0 = λ i. before (map lexeme (vec_items c.push.new.self)) (lexed c.args.number i 0 c.split-at.result.1.now) ≡ tokens_of c.args.number c.args.line.now in (
+    let parts = c.split_at.ensures in
+    let n : length c.split_at.result.1.now + (c.extent.result + 1) ≡ length c.loop-rest.rest.now = parts.back_len in
+    let here : length c.args.line.now - length c.loop-rest.rest.now + 1 + 1 + c.extent.result ≡ length c.args.line.now - length c.split_at.result.1.now + 1 = omega arith in
+    let P : ℕ → Type 0 = λ i. before (map lexeme (vec_items c.push.new.self)) (lexed c.args.number i 0 c.split_at.result.1.now) ≡ tokens_of c.args.number c.args.line.now in (
       omega arith,
-      subst P here (part_token c.args.number (length c.args.line.now - length c.loop-rest.rest.now + 1) c.extent.result c.loop-rest.rest.now c.split-at.result.0.now c.split-at.result.1.now some c.extent.ensures parts.front parts.back c.place-of-place.result c.place-of-place.ensures
-          (vec_items c.loop-rest.found) (vec_items c.push.new.self) (tokens_of c.args.number c.args.line.now) c.loop-rest.invariant.1 c.in-Some.token pushed (ap (λ o. read_part (Ok o)) (sym c.in-Some.is) ∙ c.in-ok-token.ensures)),
+      subst P here (part_token c.args.number (length c.args.line.now - length c.loop-rest.rest.now + 1) c.extent.result c.loop-rest.rest.now c.split_at.result.0.now c.split_at.result.1.now some c.extent.ensures parts.front parts.back c.place_of-place.result c.place_of-place.ensures
+          (vec_items c.loop-rest.found) (vec_items c.push.new.self) (tokens_of c.args.number c.args.line.now) c.loop-rest.invariant.1 c.in-Some.token pushed (ap (λ o. read_part (Ok o)) (sym c.in-Some.is) ∙ c.in_ok-token.ensures)),
     )
 
 pub returns : goal.returns

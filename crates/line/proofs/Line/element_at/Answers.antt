@@ -17,8 +17,8 @@ pub returns-then-i-place : goal.returns-then-i-place
 returns-then-i-place g c =
     let l = c.args.self.now in
     let ns = vec_items l.nodes in
-    let e = rest_next ns l.taken c.loop-i.i c.loop-i.at c.in-Some.next c.element-of.result c.loop-i-test.true (sym {b = next_of ns c.loop-i.at} c.in-Some.ensures.is) c.element-of.ensures in
-    sym (nth_here c.element-of.result _ c.loop-i.i c.args.place c.if-i-place.true) ∙ sym (ap (λ xs. slice_get xs (c.args.place - c.loop-i.i)) e) ∙ c.loop-i.invariant.2
+    let e = rest_next ns l.taken c.loop-i.i c.loop-i.at c.in-Some.next c.element_of.result c.loop-i-test.true (sym {b = next_of ns c.loop-i.at} c.in-Some.ensures.is) c.element_of.ensures in
+    sym (nth_here c.element_of.result _ c.loop-i.i c.args.place c.if-i-place.true) ∙ sym (ap (λ xs. slice_get xs (c.args.place - c.loop-i.i)) e) ∙ c.loop-i.invariant.2
 
 pub loop-i-preserved : goal.loop-i-preserved
 loop-i-preserved g c =

@@ -15,9 +15,9 @@ use Rattle.line_model.specs.Sound.{Sound}
 use Rattle.line_model.proofs.Fresh.{Sizes, sizes, fresh_length, fresh_next, fresh_sound, fresh_fresh, all_same}
 use Rattle.line.proofs.Line.over.Goals as goal
 
-pub overflow-add-nodes : goal.overflow-add-nodes
-overflow-add-nodes g c =
-    let z = sizes c.args.stations c.args.nodes (vec_len c.args.node-table) (vec_len c.args.station-table) c.requires.sizes in
+pub overflow_add-nodes : goal.overflow_add-nodes
+overflow_add-nodes g c =
+    let z = sizes c.args.stations c.args.nodes (vec_len c.args.node_table) (vec_len c.args.station_table) c.requires.sizes in
     let h : c.args.nodes ≤ 512 = z.few_nodes in search rules
 
 -- Of what a fresh line holds each number and index is in bounds.
@@ -50,10 +50,10 @@ free_front {E = E} s n ss table e f l = e ∙ ap (λ (xs : List (Seat E)). take 
 abbrev make : (E : Type 0) → List (Node E) → List (Seat E) → LineModel E
 make E ns ss = record { nodes = ns; taken = 1; head = 0; tail = 0; seats = ss }
 
-pub invariant-of-result : goal.invariant-of-result
-invariant-of-result g c =
-    let nt = c.args.node-table in
-    let st = c.args.station-table in
+pub invariant_of-result : goal.invariant_of-result
+invariant_of-result g c =
+    let nt = c.args.node_table in
+    let st = c.args.station_table in
     let s = c.args.stations in
     let m = c.args.nodes in
     let z = sizes s m (vec_len nt) (vec_len st) c.requires.sizes in
@@ -67,8 +67,8 @@ invariant-of-result g c =
 
 pub returns : goal.returns
 returns g c =
-    let nt = c.args.node-table in
-    let st = c.args.station-table in
+    let nt = c.args.node_table in
+    let st = c.args.station_table in
     let s = c.args.stations in
     let m = c.args.nodes in
     let y = sizes s m (vec_len nt) (vec_len st) c.requires.sizes in

@@ -9,16 +9,16 @@ use Rattle.line_model.proofs.Cells.{set_within, set_next, cell_within}
 use Rattle.line.specs.View.{model_of}
 use Rattle.line.proofs.Line.set_next.Goals as goal
 
-pub invariant-of-self : goal.invariant-of-self
-invariant-of-self g c =
+pub invariant_of-self : goal.invariant_of-self
+invariant_of-self g c =
     let l = c.args.self.now in
     let ns = vec_items l.nodes in
     let x = c.index-mut.result.now in
-    let y : Node g.row.E.Denot = toward c.compare-none-and-set.new.cell x in
+    let y : Node g.row.E.Denot = toward c.compare_none_and_set.new.cell x in
     let e : length (set ns c.args.node y) ≡ length ns = length-set ns c.args.node y in
     let r = ap next_in (slice_get_read ns (length ns) c.args.node x refl c.requires.0 c.index-mut.ensures.value) in
-    let h = cell_within (length ns) c.args.new x.next c.compare-none-and-set.new.cell c.compare-none-and-set.result
-    c.compare-none-and-set.ensures.left (lt-ltb c.args.new (length ns) c.requires.1) (ap (in_next (length ns)) (sym r) ∙ l.nexts c.args.node) in (
+    let h = cell_within (length ns) c.args.new x.next c.compare_none_and_set.new.cell c.compare_none_and_set.result
+    c.compare_none_and_set.ensures.left (lt-ltb c.args.new (length ns) c.requires.1) (ap (in_next (length ns)) (sym r) ∙ l.nexts c.args.node) in (
       omega arith,
       (
         omega arith,
@@ -50,8 +50,8 @@ returns g c =
     let x = c.index-mut.result.now in
     let r = slice_get_read ns (length ns) c.args.node x refl c.requires.0 c.index-mut.ensures.value in
     record {
-      told = c.compare-none-and-set.ensures.told ∙ ap (λ (o : Option (Node g.row.E.Denot)). not (is_node (next_in o))) (sym r);
-      left = set_next (model_of c.args.self.now) c.args.node c.args.new x c.compare-none-and-set.new.cell c.compare-none-and-set.result r
-          c.compare-none-and-set.ensures.told c.compare-none-and-set.ensures.left;
-      size = length-set ns c.args.node (toward c.compare-none-and-set.new.cell x);
+      told = c.compare_none_and_set.ensures.told ∙ ap (λ (o : Option (Node g.row.E.Denot)). not (is_node (next_in o))) (sym r);
+      left = set_next (model_of c.args.self.now) c.args.node c.args.new x c.compare_none_and_set.new.cell c.compare_none_and_set.result r
+          c.compare_none_and_set.ensures.told c.compare_none_and_set.ensures.left;
+      size = length-set ns c.args.node (toward c.compare_none_and_set.new.cell x);
     }

@@ -4,10 +4,10 @@ use lib.Seq.{set_out}
 use Rattle.line_model.proofs.Seats.{seat_within}
 use Rattle.line.proofs.Line.sit.Goals as goal
 
-pub invariant-of-self : goal.invariant-of-self
-invariant-of-self g c =
+pub invariant_of-self : goal.invariant_of-self
+invariant_of-self g c =
     let l = c.args.self.now in
-    let n : length (vec_items l.seats) ≡ length (set (vec_items l.seats) c.saturating-sub-at.result c.args.seat) = sym (length-set (vec_items l.seats) c.saturating-sub-at.result c.args.seat) in (
+    let n : length (vec_items l.seats) ≡ length (set (vec_items l.seats) c.saturating_sub-at.result c.args.seat) = sym (length-set (vec_items l.seats) c.saturating_sub-at.result c.args.seat) in (
       l.some_nodes,
       (
         l.few_nodes,
@@ -24,7 +24,7 @@ invariant-of-self g c =
                   (
                     l.nexts,
                     (
-                      seat_within (length (vec_items l.nodes)) (vec_items l.seats) c.saturating-sub-at.result c.args.seat l.sits c.requires,
+                      seat_within (length (vec_items l.nodes)) (vec_items l.seats) c.saturating_sub-at.result c.args.seat l.sits c.requires,
                       tt,
                     ),
                   ),

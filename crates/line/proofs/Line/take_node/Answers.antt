@@ -6,8 +6,8 @@ use Rattle.line_model.specs.Within.{in_next, in_seat, seat_at}
 use Rattle.line_model.proofs.Cells.{set_within}
 use Rattle.line.proofs.Line.take_node.Goals as goal
 
-pub invariant-of-self : goal.invariant-of-self
-invariant-of-self g c =
+pub invariant_of-self : goal.invariant_of-self
+invariant_of-self g c =
     let l = c.args.self.now in
     let ns = vec_items l.nodes in
     let y : Node g.row.E.Denot = record { element = c.args.element; next = None } in

@@ -41,7 +41,7 @@ pub put-requires : goal.put-requires
 put-requires g c =
     let l = c.args.self.now in
     let ns = vec_items l.nodes in
-    let e = ap length (rest_next ns l.taken c.loop-i.i c.loop-i.at c.in-Some.next c.element-of.result c.loop-i-test.true (sym {b = next_of ns c.loop-i.at} c.in-Some.ensures.is) c.element-of.ensures) in
+    let e = ap length (rest_next ns l.taken c.loop-i.i c.loop-i.at c.in-Some.next c.element_of.result c.loop-i-test.true (sym {b = next_of ns c.loop-i.at} c.in-Some.ensures.is) c.element_of.ensures) in
     omega (arith, c.loop-i.invariant.1, e)
 
 pub loop-i-preserved : goal.loop-i-preserved
@@ -49,6 +49,6 @@ loop-i-preserved g c =
     let l = c.args.self.now in
     let ns = vec_items l.nodes in
     let h : c.in-Some.next < length ns = ltb-true c.in-Some.next (length ns) c.in-Some.ensures.within in
-    let e = rest_next ns l.taken c.loop-i.i c.loop-i.at c.in-Some.next c.element-of.result c.loop-i-test.true (sym {b = next_of ns c.loop-i.at} c.in-Some.ensures.is) c.element-of.ensures in
-    let w = written _ _ c.loop-i.list c.put.new.list _ c.loop-i.i c.element-of.result e c.loop-i.invariant.1 c.loop-i.invariant.2 c.put.ensures in
+    let e = rest_next ns l.taken c.loop-i.i c.loop-i.at c.in-Some.next c.element_of.result c.loop-i-test.true (sym {b = next_of ns c.loop-i.at} c.in-Some.ensures.is) c.element_of.ensures in
+    let w = written _ _ c.loop-i.list c.put.new.list _ c.loop-i.i c.element_of.result e c.loop-i.invariant.1 c.loop-i.invariant.2 c.put.ensures in
     (h, w.0, w.1)

@@ -3,7 +3,7 @@ use Rattle.nest_model.specs.Cells.{cell_at, key_at}
 use Rattle.nest_model.specs.Chain.{listing, enlist}
 use Rattle.nest_model.proofs.Walks.{turned, at_back, length_some, length_none}
 use Rattle.nest.proofs.Nest.count.Goals as goal
-use Rattle.nest.proofs.Nest.count.Goals.{then-is-some, else-is-some}
+use Rattle.nest.proofs.Nest.count.Goals.{then-is_some, else-is_some}
 
 pub returns-then-n-eq-BACK : goal.returns-then-n-eq-BACK
 returns-then-n-eq-BACK g c =
@@ -17,7 +17,7 @@ loop-turn-preserved g c =
     let l = listing (cell_at ns) (key_at ns) (most - i) c.loop-turn.n in
     let t : l ≡ enlist c.listed.result r =
     turned (cell_at ns) (key_at ns) most i c.loop-turn.n c.listed.result c.after-n.result c.loop-turn-test.true c.if-n-eq-BACK.false c.listed.ensures c.after-n.ensures in
-    elim c.if-is-some.branch [
-      | then-is-some w ↦ (omega (arith, w.count-is, c.loop-turn.invariant.0), omega (arith, w.count-is, c.loop-turn.invariant.1, length_some c.listed.result r l t (sym c.is-some.ensures ∙ w.if-is-some.true)))
-      | else-is-some w ↦ (omega (arith, w.count-is, c.loop-turn.invariant.0), omega (arith, w.count-is, c.loop-turn.invariant.1, length_none c.listed.result r l t (sym c.is-some.ensures ∙ w.if-is-some.false)))
+    elim c.if-is_some.branch [
+      | then-is_some w ↦ (omega (arith, w.count-is, c.loop-turn.invariant.0), omega (arith, w.count-is, c.loop-turn.invariant.1, length_some c.listed.result r l t (sym c.is_some.ensures ∙ w.if-is_some.true)))
+      | else-is_some w ↦ (omega (arith, w.count-is, c.loop-turn.invariant.0), omega (arith, w.count-is, c.loop-turn.invariant.1, length_none c.listed.result r l t (sym c.is_some.ensures ∙ w.if-is_some.false)))
     ]

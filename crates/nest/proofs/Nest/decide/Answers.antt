@@ -12,7 +12,7 @@ pub returns-in-Find-true : goal.returns-in-Find-true
 returns-in-Find-true g c =
     let m = model_of c.args.self.now in let ns = m.nodes in let o = c.args.op in let own = c.args.own in let r = c.args.registers in
     let w = c.in-Find-true in let before = g.K.Key.before in
-    let f = found_at before ns c.key-of.result (key_of o) c.node.result (node r.here) true w.ensures c.key-of.ensures c.node.ensures in
+    let f = found_at before ns c.key_of.result (key_of o) c.node.result (node r.here) true w.ensures c.key_of.ensures c.node.ensures in
     let u = decided before o own (is_key before (key_of o) (key_at ns (node r.here))) r ns in
     let t = decided before (Find w.field-0-0) own true r ns in
     let h = decided_by before own r ns (Find w.field-0-0) o true (is_key before (key_of o) (key_at ns (node r.here))) w.is-0 f in
@@ -22,7 +22,7 @@ pub returns-in-Find-false : goal.returns-in-Find-false
 returns-in-Find-false g c =
     let m = model_of c.args.self.now in let ns = m.nodes in let o = c.args.op in let own = c.args.own in let r = c.args.registers in
     let w = c.in-Find-false in let before = g.K.Key.before in
-    let f = found_at before ns c.key-of.result (key_of o) c.node.result (node r.here) false w.ensures c.key-of.ensures c.node.ensures in
+    let f = found_at before ns c.key_of.result (key_of o) c.node.result (node r.here) false w.ensures c.key_of.ensures c.node.ensures in
     let u = decided before o own (is_key before (key_of o) (key_at ns (node r.here))) r ns in
     let t = decided before (Find w.field-0-0) own false r ns in
     let h = decided_by before own r ns (Find w.field-0-0) o false (is_key before (key_of o) (key_at ns (node r.here))) w.is-0 f in
@@ -32,7 +32,7 @@ pub returns-in-Add-true : goal.returns-in-Add-true
 returns-in-Add-true g c =
     let m = model_of c.args.self.now in let ns = m.nodes in let o = c.args.op in let own = c.args.own in let r = c.args.registers in
     let w = c.in-Add-true in let before = g.K.Key.before in
-    let f = found_at before ns c.key-of.result (key_of o) c.node.result (node r.here) true w.ensures c.key-of.ensures c.node.ensures in
+    let f = found_at before ns c.key_of.result (key_of o) c.node.result (node r.here) true w.ensures c.key_of.ensures c.node.ensures in
     let u = decided before o own (is_key before (key_of o) (key_at ns (node r.here))) r ns in
     let t = decided before (Add w.field-0-0) own true r ns in
     let h = decided_by before own r ns (Add w.field-0-0) o true (is_key before (key_of o) (key_at ns (node r.here))) w.is-0 f in
@@ -42,7 +42,7 @@ pub returns-in-Add-false : goal.returns-in-Add-false
 returns-in-Add-false g c =
     let m = model_of c.args.self.now in let ns = m.nodes in let o = c.args.op in let own = c.args.own in let r = c.args.registers in
     let w = c.in-Add-false in let before = g.K.Key.before in let after = model_of c.write.new.self in
-    let f = found_at before ns c.key-of.result (key_of o) c.node.result (node r.here) false w.ensures c.key-of.ensures c.node.ensures in
+    let f = found_at before ns c.key_of.result (key_of o) c.node.result (node r.here) false w.ensures c.key_of.ensures c.node.ensures in
     let u = decided before o own (is_key before (key_of o) (key_at ns (node r.here))) r ns in
     let t = decided before (Add w.field-0-0) own false r ns in
     let h = decided_by before own r ns (Add w.field-0-0) o false (is_key before (key_of o) (key_at ns (node r.here))) w.is-0 f in
@@ -52,7 +52,7 @@ pub returns-in-Drop-true : goal.returns-in-Drop-true
 returns-in-Drop-true g c =
     let m = model_of c.args.self.now in let ns = m.nodes in let o = c.args.op in let own = c.args.own in let r = c.args.registers in
     let w = c.in-Drop-true in let before = g.K.Key.before in
-    let f = found_at before ns c.key-of.result (key_of o) c.node.result (node r.here) true w.ensures c.key-of.ensures c.node.ensures in
+    let f = found_at before ns c.key_of.result (key_of o) c.node.result (node r.here) true w.ensures c.key_of.ensures c.node.ensures in
     let u = decided before o own (is_key before (key_of o) (key_at ns (node r.here))) r ns in
     let t = decided before (Drop w.field-0-0) own true r ns in
     let h = decided_by before own r ns (Drop w.field-0-0) o true (is_key before (key_of o) (key_at ns (node r.here))) w.is-0 f in
@@ -62,7 +62,7 @@ pub returns-in-Drop-false : goal.returns-in-Drop-false
 returns-in-Drop-false g c =
     let m = model_of c.args.self.now in let ns = m.nodes in let o = c.args.op in let own = c.args.own in let r = c.args.registers in
     let w = c.in-Drop-false in let before = g.K.Key.before in
-    let f = found_at before ns c.key-of.result (key_of o) c.node.result (node r.here) false w.ensures c.key-of.ensures c.node.ensures in
+    let f = found_at before ns c.key_of.result (key_of o) c.node.result (node r.here) false w.ensures c.key_of.ensures c.node.ensures in
     let u = decided before o own (is_key before (key_of o) (key_at ns (node r.here))) r ns in
     let t = decided before (Drop w.field-0-0) own false r ns in
     let h = decided_by before own r ns (Drop w.field-0-0) o false (is_key before (key_of o) (key_at ns (node r.here))) w.is-0 f in

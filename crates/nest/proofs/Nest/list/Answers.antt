@@ -29,8 +29,8 @@ returns-then-n-eq-BACK g c =
 pub bounds-list-at : goal.bounds-list-at
 bounds-list-at g c = omega (arith, room g c, c.requires, c.loop-turn.auto.list)
 
-pub overflow-add-at : goal.overflow-add-at
-overflow-add-at g c = let h : c.loop-turn.at < length c.args.list.now = omega (arith, room g c, c.requires) in search rules
+pub overflow_add-at : goal.overflow_add-at
+overflow_add-at g c = let h : c.loop-turn.at < length c.args.list.now = omega (arith, room g c, c.requires) in search rules
 
 pub loop-turn-preserved : goal.loop-turn-preserved
 loop-turn-preserved g c =

@@ -19,8 +19,8 @@ cleared : {K : Type 0} (stations was cut : ℕ) (ws : List (Work K)) → ws ≡ 
     ws ≡ replicate stations Free
 cleared stations was cut ws e h l = let q : cut ≡ stations = omega arith in e ∙ ap (λ (n : ℕ). replicate n Free) q
 
-pub overflow-add-size : goal.overflow-add-size
-overflow-add-size g c =
+pub overflow_add-size : goal.overflow_add-size
+overflow_add-size g c =
     let z = sizes c.args.stations c.args.size (vec_len c.args.nodes) (vec_len c.args.works) c.requires in omega (arith, z.few_nodes)
 
 pub join-requires : goal.join-requires
@@ -28,8 +28,8 @@ join-requires g c =
     let z = sizes c.args.stations c.args.size (vec_len c.args.nodes) (vec_len c.args.works) c.requires in
     omega (arith, z.long_nodes, c.truncate.ensures.len, c.truncate.new.self.ok.0)
 
-pub invariant-of-result : goal.invariant-of-result
-invariant-of-result g c =
+pub invariant_of-result : goal.invariant_of-result
+invariant_of-result g c =
     let S = c.args.stations in let N = c.args.size in let ns = vec_items c.args.nodes in
     let z = sizes S N (vec_len c.args.nodes) (vec_len c.args.works) c.requires in
     let long : N + 2 ≤ length ns = omega (arith, z.long_nodes, c.args.nodes.ok.0) in

@@ -5,8 +5,8 @@ use Rattle.pair_model.specs.Pair.{free_to}
 use Rattle.pair_model.proofs.PairMaking.{free_to_more, free_to_busy}
 use Rattle.pair.proofs.pair.all_free.Goals as goal
 
-pub returns-then-not-is-free : goal.returns-then-not-is-free
-returns-then-not-is-free g c =
+pub returns-then-not-is_free : goal.returns-then-not-is_free
+returns-then-not-is_free g c =
     let b = g.T.Board in
     let m = b.model c.args.board.now in
     let told = c.stations-station-end.ensures.told in
@@ -20,8 +20,8 @@ loop-station-preserved g c =
     let free : is_free (b.means.station m c.loop-station.station) ≡ true = cc in
     free_to_more b.means m c.loop-station.station (omega arith) c.loop-station.invariant free
 
-pub returns-else-not-is-free : goal.returns-else-not-is-free
-returns-else-not-is-free g c =
+pub returns-else-not-is_free : goal.returns-else-not-is_free
+returns-else-not-is_free g c =
     let b = g.T.Board in
     let m = b.model c.args.board.now in
     let told = c.stations-station-end.ensures.told in

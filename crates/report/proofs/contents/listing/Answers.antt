@@ -6,11 +6,11 @@ use Rattle.report.proofs.contents.listing.Goals as goal
 pub returns-in-None : goal.returns-in-None
 returns-in-None g c = c.new.ensures.items ∙ sym (no_first _ c.in-None.ensures)
 
-pub returns-in-ok-items : goal.returns-in-ok-items
-returns-in-ok-items g c =
+pub returns-in_ok-items : goal.returns-in_ok-items
+returns-in_ok-items g c =
     let b = g.B.Board in
     let xs = b.plain.listed (b.means.contents (b.model c.args.board.now)) in
-    shown_all xs (vec_items c.in-ok-items.items) c.deref-mut.result.now c.show.new.list c.in-ok-items.items.items
-    c.items-count.result c.in-ok-items.items.len c.in-Some.first c.show.result
+    shown_all xs (vec_items c.in_ok-items.items) c.deref-mut.result.now c.show.new.list c.in_ok-items.items.items
+    c.items-count.result c.in_ok-items.items.len c.in-Some.first c.show.result
     (counted xs c.items-count.result c.items-count.ensures c.if-count.false)
-    c.in-ok-items.ensures c.deref-mut.ensures.value c.show.ensures.told c.show.ensures.left c.in-ok-items.items.ok.0
+    c.in_ok-items.ensures c.deref-mut.ensures.value c.show.ensures.told c.show.ensures.left c.in_ok-items.items.ok.0

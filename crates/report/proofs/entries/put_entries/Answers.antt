@@ -8,8 +8,8 @@ pub loop-left-preserved : goal.loop-left-preserved
 loop-left-preserved g c =
     let some : 0 < length c.loop-left.left.now = search rules in
     joined_first (on_line (entry_text g.O.Text.bytes g.R.Text.bytes)) c.loop-left.left.now c.first-item.result
-    (string_bytes c.loop-left.out) (string_bytes c.put-entry.new.out) _
-    some c.first-item.is c.in-ok-put-entry.ensures c.loop-left.invariant
+    (string_bytes c.loop-left.out) (string_bytes c.put_entry.new.out) _
+    some c.first-item.is c.in_ok-put_entry.ensures c.loop-left.invariant
 
 pub returns : goal.returns
 returns g c =

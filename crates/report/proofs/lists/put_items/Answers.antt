@@ -6,8 +6,8 @@ use Rattle.report.proofs.lists.put_items.Goals as goal
 pub loop-item-preserved : goal.loop-item-preserved
 loop-item-preserved g c =
     joined_turn (after_space g.T.Text.bytes) c.args.items.now c.loop-item.item-index c.item-item.result
-    (string_bytes c.loop-item.out) (string_bytes c.put-item.new.out) _
-    c.loop-item-test.true c.item-item.is c.in-ok-put-item.ensures c.loop-item.invariant
+    (string_bytes c.loop-item.out) (string_bytes c.put_item.new.out) _
+    c.loop-item-test.true c.item-item.is c.in_ok-put_item.ensures c.loop-item.invariant
 
 pub returns : goal.returns
 returns g c =

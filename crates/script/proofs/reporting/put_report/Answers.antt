@@ -9,13 +9,13 @@ use Rattle.script_model.proofs.Joined.{report_parts}
 use Rattle.script.specs.Script.{op_text, answer_text, shop_report}
 use Rattle.script.proofs.reporting.put_report.Goals as goal
 
-pub returns-in-err-put-contents : goal.returns-in-err-put-contents
-returns-in-err-put-contents g c =
-    let p = err_from_is_err_and c.from-residual.result c.from-residual.ensures.1 in rw p.1 tt
+pub returns-in_err-put_contents : goal.returns-in_err-put_contents
+returns-in_err-put_contents g c =
+    let p = err_from_is_err_and c.from_residual.result c.from_residual.ensures.1 in rw p.1 tt
 
-pub returns-in-err-put-contents-2 : goal.returns-in-err-put-contents-2
-returns-in-err-put-contents-2 g c =
-    let p = err_from_is_err_and c.from-residual-in-err-put-contents-2.result c.from-residual-in-err-put-contents-2.ensures.1 in rw p.1 tt
+pub returns-in_err-put_contents-2 : goal.returns-in_err-put_contents-2
+returns-in_err-put_contents-2 g c =
+    let p = err_from_is_err_and c.from_residual-in_err-put_contents-2.result c.from_residual-in_err-put_contents-2.ensures.1 in rw p.1 tt
 
 pub returns-in-Ok : goal.returns-in-Ok
 unfolding shop_report
@@ -24,13 +24,13 @@ returns-in-Ok g c =
     let element = g.E.Text.bytes in
     let board = c.args.floor.now.board in
     report_parts key element (op_text key element) (answer_text element)
-    (string_bytes c.args.out.now) (string_bytes c.put_contents.new.out) (string_bytes c.put-contents-2.new.out) (string_bytes c.put-entries.new.out)
+    (string_bytes c.args.out.now) (string_bytes c.put_contents.new.out) (string_bytes c.put_contents-2.new.out) (string_bytes c.put_entries.new.out)
     (nest-meaning.contents (nest-view.model_of board.first)) (nest-meaning.contents (nest-view.model_of c.first.result.now))
     (line-meaning.contents (line_view.model_of board.second)) (line-meaning.contents (line_view.model_of c.second.result.now))
-    c.args.ledger.now c.split-at.result.0.now c.args.floor.now.written
-    c.in-ok-put-contents.ensures
+    c.args.ledger.now c.split_at.result.0.now c.args.floor.now.written
+    c.in_ok-put_contents.ensures
     (ap (λ n. nest-meaning.contents (nest-view.model_of n)) (c.first.ensures ∙ ap (λ b. b.first) c.board.ensures))
-    c.in-ok-put-contents-2.ensures
+    c.in_ok-put_contents-2.ensures
     (ap (λ l. line-meaning.contents (line_view.model_of l)) (c.second.ensures ∙ ap (λ b. b.second) c.board-2.ensures))
     c.in-Ok.ensures
-    (c.split-at.ensures.front ∙ ap (λ k. take k c.args.ledger.now) (c.min.ensures ∙ ap (λ w. min w (length c.args.ledger.now)) c.written.ensures))
+    (c.split_at.ensures.front ∙ ap (λ k. take k c.args.ledger.now) (c.min.ensures ∙ ap (λ w. min w (length c.args.ledger.now)) c.written.ensures))

@@ -8,13 +8,13 @@ use Rattle.shop.proofs.making.make_line.Goals as goal
 
 pub new-requires : goal.new-requires
 new-requires g c =
-    let nodes : vec_len c.in-ok-node-table.node-table ≡ c.args.nodes + 1 = c.in-ok-node-table.node-table.ok.0 ∙ ap length c.in-ok-node-table.ensures ∙ length-replicate _ _ in
-    let stations : vec_len c.in-ok-station-table.station-table ≡ c.args.stations = c.in-ok-station-table.station-table.ok.0 ∙ ap length c.in-ok-station-table.ensures ∙ length-replicate _ _ in
+    let nodes : vec_len c.in_ok-node_table.node_table ≡ c.args.nodes + 1 = c.in_ok-node_table.node_table.ok.0 ∙ ap length c.in_ok-node_table.ensures ∙ length-replicate _ _ in
+    let stations : vec_len c.in_ok-station_table.station_table ≡ c.args.stations = c.in_ok-station_table.station_table.ok.0 ∙ ap length c.in_ok-station_table.ensures ∙ length-replicate _ _ in
     line_fine c.args.stations c.args.nodes _ _ c.requires.0 c.requires.1 c.requires.2 c.requires.3 nodes stations
 
 pub returns : goal.returns
 returns g c = record {
-  is = c.new.ensures.made ∙ ap (λ ns. fresh c.args.stations c.args.nodes ns) c.in-ok-node-table.ensures;
+  is = c.new.ensures.made ∙ ap (λ ns. fresh c.args.stations c.args.nodes ns) c.in_ok-node_table.ensures;
   sound = c.new.ensures.sound;
   fresh = c.new.ensures.unused;
   lacking = tt;

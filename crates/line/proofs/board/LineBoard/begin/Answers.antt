@@ -9,10 +9,10 @@ use Rattle.line_model.proofs.Acts.{began, refused, can_begin_lem, no_space, seat
 use Rattle.line.specs.View.{model_of}
 use Rattle.line.proofs.board.LineBoard.begin.Goals as goal
 
-pub returns-in-default : goal.returns-in-default
-returns-in-default g c =
+pub returns-in_default : goal.returns-in_default
+returns-in_default g c =
     let m = model_of c.args.self.now in let p = c.args.station in let o = c.args.op.now in
-    let d = refused m p o (seat_taken m p o c.seat.result c.seat.ensures.is c.in-default.not-Free) in
+    let d = refused m p o (seat_taken m p o c.seat.result c.seat.ensures.is c.in_default.not-Free) in
     record { told = d.0; left = d.1 }
 
 pub returns-then-self-len : goal.returns-then-self-len
@@ -36,7 +36,7 @@ returns-else-self-len g c =
     let m = model_of c.args.self.now in let p = c.args.station in let o = c.args.op.now in let x = c.in-Put.element in
     let hi : p ≤ length m.seats = omega (arith, c.if-station-len.false, c.len.ensures, c.args.self.now.seats.ok.0) in
     let space = ap (has_space m) c.in-Put.is ∙ lt-ltb m.taken (length m.nodes) (omega (arith, c.if-self-len.false, c.len-in-Put.ensures, c.args.self.now.nodes.ok.0)) in
-    let left = c.sit.ensures ∙ ap₂ (λ (k : LineModel g.row.E.Denot) (own : ℕ). sit k p (E1 x own None None)) c.take-node-own.ensures.left c.take-node-own.ensures.told in
+    let left = c.sit.ensures ∙ ap₂ (λ (k : LineModel g.row.E.Denot) (own : ℕ). sit k p (E1 x own None None)) c.take_node-own.ensures.left c.take_node-own.ensures.told in
     let d = began m p (model_of c.sit.new.self) o
     (can_begin_lem m p o (omega (arith, c.if-station-lt1.false)) hi c.in-Free.ensures.is space)
     (left ∙ ap (started m p) (sym c.in-Put.is)) in

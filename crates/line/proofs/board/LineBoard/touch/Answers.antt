@@ -25,22 +25,22 @@ returns-in-E1 g c =
 pub returns-in-E2 : goal.returns-in-E2
 returns-in-E2 g c =
     let m = model_of c.args.self.now in let p = c.args.station in let w = c.in-E2 in let s = E2 w.element w.own w.end w.field-3 in let e = w.ensures.is in
-    record { told = told_by m p s e c.go-in-E2.result c.go-in-E2.ensures.told; left = left_by m p s e (model_of c.go-in-E2.new.self) (sit_at (E3 w.element w.own w.end) (model_of c.go-in-E2.new.self) m p c.next-of.result (next_of m.nodes w.end) c.go-in-E2.ensures.left c.next-of.ensures.is) }
+    record { told = told_by m p s e c.go-in-E2.result c.go-in-E2.ensures.told; left = left_by m p s e (model_of c.go-in-E2.new.self) (sit_at (E3 w.element w.own w.end) (model_of c.go-in-E2.new.self) m p c.next_of.result (next_of m.nodes w.end) c.go-in-E2.ensures.left c.next_of.ensures.is) }
 
 pub returns-in-E3 : goal.returns-in-E3
 returns-in-E3 g c =
     let m = model_of c.args.self.now in let p = c.args.station in let w = c.in-E3 in let s = E3 w.element w.own w.end w.n in let e = w.ensures.is in
-    record { told = told_by m p s e c.touch-e3.result c.touch-e3.ensures.told; left = left_by m p s e (model_of c.touch-e3.new.self) c.touch-e3.ensures.left }
+    record { told = told_by m p s e c.touch_e3.result c.touch_e3.ensures.told; left = left_by m p s e (model_of c.touch_e3.new.self) c.touch_e3.ensures.left }
 
 pub returns-in-E4 : goal.returns-in-E4
 returns-in-E4 g c =
     let m = model_of c.args.self.now in let p = c.args.station in let w = c.in-E4 in let s = E4 w.element w.own w.end in let e = w.ensures.is in
-    record { told = told_by m p s e c.touch-e4.result c.touch-e4.ensures.told; left = left_by m p s e (model_of c.touch-e4.new.self) c.touch-e4.ensures.left }
+    record { told = told_by m p s e c.touch_e4.result c.touch_e4.ensures.told; left = left_by m p s e (model_of c.touch_e4.new.self) c.touch_e4.ensures.left }
 
 pub returns-in-E5 : goal.returns-in-E5
 returns-in-E5 g c =
     let m = model_of c.args.self.now in let p = c.args.station in let w = c.in-E5 in let s = E5 w.element w.own w.end w.n in let e = w.ensures.is in
-    record { told = told_by m p s e c.go-in-E5.result c.go-in-E5.ensures.told; left = left_by m p s e (model_of c.go-in-E5.new.self) (sit_after (model_of c.go-in-E5.new.self) (model_of c.set-tail.new.self) (tail_set m w.end w.n) p (E1 w.element w.own (Some w.end) (Some (Some w.n))) c.go-in-E5.ensures.left c.set-tail.ensures.left) }
+    record { told = told_by m p s e c.go-in-E5.result c.go-in-E5.ensures.told; left = left_by m p s e (model_of c.go-in-E5.new.self) (sit_after (model_of c.go-in-E5.new.self) (model_of c.set_tail.new.self) (tail_set m w.end w.n) p (E1 w.element w.own (Some w.end) (Some (Some w.n))) c.go-in-E5.ensures.left c.set_tail.ensures.left) }
 
 pub returns-in-D1 : goal.returns-in-D1
 returns-in-D1 g c =
@@ -55,14 +55,14 @@ returns-in-D2 g c =
 pub returns-in-D3 : goal.returns-in-D3
 returns-in-D3 g c =
     let m = model_of c.args.self.now in let p = c.args.station in let w = c.in-D3 in let s = D3 w.first w.end w.n in let e = w.ensures.is in
-    record { told = told_by m p s e c.touch-d3.result c.touch-d3.ensures.told; left = left_by m p s e (model_of c.touch-d3.new.self) c.touch-d3.ensures.left }
+    record { told = told_by m p s e c.touch_d3.result c.touch_d3.ensures.told; left = left_by m p s e (model_of c.touch_d3.new.self) c.touch_d3.ensures.left }
 
 pub returns-in-D4 : goal.returns-in-D4
 returns-in-D4 g c =
     let m = model_of c.args.self.now in let p = c.args.station in let w = c.in-D4 in let s = D4 w.first w.end w.n in let e = w.ensures.is in
-    record { told = told_by m p s e c.go-in-D4.result c.go-in-D4.ensures.told; left = left_by m p s e (model_of c.go-in-D4.new.self) (sit_after (model_of c.go-in-D4.new.self) (model_of c.set-tail-in-D4.new.self) (tail_set m w.end w.n) p (D1 (Some w.first) (Some w.end) (Some (Some w.n))) c.go-in-D4.ensures.left c.set-tail-in-D4.ensures.left) }
+    record { told = told_by m p s e c.go-in-D4.result c.go-in-D4.ensures.told; left = left_by m p s e (model_of c.go-in-D4.new.self) (sit_after (model_of c.go-in-D4.new.self) (model_of c.set_tail-in-D4.new.self) (tail_set m w.end w.n) p (D1 (Some w.first) (Some w.end) (Some (Some w.n))) c.go-in-D4.ensures.left c.set_tail-in-D4.ensures.left) }
 
 pub returns-in-D5 : goal.returns-in-D5
 returns-in-D5 g c =
     let m = model_of c.args.self.now in let p = c.args.station in let w = c.in-D5 in let s = D5 w.first w.end w.n in let e = w.ensures.is in
-    record { told = told_by m p s e c.touch-d5.result c.touch-d5.ensures.told; left = left_by m p s e (model_of c.touch-d5.new.self) c.touch-d5.ensures.left }
+    record { told = told_by m p s e c.touch_d5.result c.touch_d5.ensures.told; left = left_by m p s e (model_of c.touch_d5.new.self) c.touch_d5.ensures.left }

@@ -3,4 +3,4 @@ use Rattle.nest.proofs.Reading.{saturated}
 use Rattle.nest.proofs.board.NestBoard.items.Goals as goal
 
 pub returns : goal.returns
-returns g c = saturated c.count.result _ c.count.ensures c.count.type-inv
+returns g c = saturated c.count.result _ c.count.ensures c.count.type_inv

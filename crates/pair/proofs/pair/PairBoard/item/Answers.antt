@@ -6,8 +6,8 @@ use Rattle.pair_model.specs.Pair.{answered}
 use Rattle.pair_model.proofs.PairListed.{nth_none, listing_first, listing_second}
 use Rattle.pair.proofs.pair.PairBoard.item.Goals as goal
 
-pub overflow-sub-place : goal.overflow-sub-place
-overflow-sub-place g c =
+pub overflow_sub-place : goal.overflow_sub-place
+overflow_sub-place g c =
     let f = g.F.Board in
     let xs = f.plain.listed (f.means.contents (f.model c.args.self.now.first)) in
     let nothing : slice_get xs c.args.place ≡ None = cc in
@@ -33,5 +33,5 @@ returns-in-None g c =
     let past = nth_none xs c.args.place nothing in
     let fits = c.ranges.place.fits in
     let long : c.items.result ≡ length xs = omega arith in
-    c.second-side.ensures ∙ ap (answered Second) (c.item-in-None.ensures ∙ ap (λ n. slice_get ys (c.args.place - n)) long) ∙
+    c.second_side.ensures ∙ ap (answered Second) (c.item-in-None.ensures ∙ ap (λ n. slice_get ys (c.args.place - n)) long) ∙
     sym (listing_second xs ys c.args.place nothing)

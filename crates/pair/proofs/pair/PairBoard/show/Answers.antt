@@ -6,8 +6,8 @@ use Rattle.plain_model.specs.Pair.{listed}
 use Rattle.pair_model.proofs.PairListed.{nth_none, fits_not, fits_within, over_more, over_all}
 use Rattle.pair.proofs.pair.PairBoard.show.Goals as goal
 
-pub returns-then-is-some : goal.returns-then-is-some
-returns-then-is-some g c =
+pub returns-then-is_some : goal.returns-then-is_some
+returns-then-is_some g c =
     let f = g.F.Board in
     let s = g.S.Board in
     let xs = listed f.plain s.plain (f.means.contents (f.model c.args.self.now.first), s.means.contents (s.model c.args.self.now.second)) in
@@ -26,8 +26,8 @@ loop-place-preserved g c =
     c.put.ensures ∙ ap (λ l. set l c.loop-place.place c.in-Some.item) c.loop-place.invariant ∙
     over_more xs c.args.list.now c.loop-place.place c.in-Some.item there c.loop-place-test.true
 
-pub returns-in-default : goal.returns-in-default
-returns-in-default g c =
+pub returns-in_default : goal.returns-in_default
+returns-in_default g c =
     let f = g.F.Board in
     let s = g.S.Board in
     let xs = listed f.plain s.plain (f.means.contents (f.model c.args.self.now.first), s.means.contents (s.model c.args.self.now.second)) in

@@ -5,8 +5,8 @@ use Rattle.plain_model.specs.Nest.{same, has}
 use Rattle.plain.proofs.Search.{find_passes, find_stands}
 use Rattle.plain.proofs.plain_nest.PlainNest.find.Goals as goal
 
-pub returns-then-is-same : goal.returns-then-is-same
-returns-then-is-same g c =
+pub returns-then-is_same : goal.returns-then-is_same
+returns-then-is_same g c =
     let keys = vec_items c.args.self.now.keys in
     let found : same g.K.Key.before c.args.key.now (get_or keys c.loop-place.place c.other-item.result) ≡ true = cc in
     let within : c.loop-place.place < length keys = omega arith in

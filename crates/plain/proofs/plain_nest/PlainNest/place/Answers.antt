@@ -5,8 +5,8 @@ use Rattle.plain.specs.Search.{all_before, Belongs}
 use Rattle.plain.proofs.Search.{place_passes, place_belongs, place_last}
 use Rattle.plain.proofs.plain_nest.PlainNest.place.Goals as goal
 
-pub returns-then-not-is-before : goal.returns-then-not-is-before
-returns-then-not-is-before g c =
+pub returns-then-not-is_before : goal.returns-then-not-is_before
+returns-then-not-is_before g c =
     let keys = vec_items c.args.self.now.keys in
     let other : g.K.Key.before (get_or keys c.loop-place.place c.other-item.result) c.args.key.now ≡ false = cc in
     let within : c.loop-place.place < length keys = omega arith in

@@ -11,11 +11,11 @@ returns g c =
     let f : Floor b.Model = floor_of b.model c.args.self.now in
     let p = c.args.station in
     let o = c.args.op.now in
-    let after : Floor b.Model = record { board = b.model c.begin.new.self; limit = f.limit; written = f.written; turns = set f.turns p c.saturating-add.result } in
+    let after : Floor b.Model = record { board = b.model c.begin.new.self; limit = f.limit; written = f.written; turns = set f.turns p c.saturating_add.result } in
     let left : start_refusal b.means f p o ≡ None → Fits b.means b.sound f → after ≡ (start b.steps b.means f p o).0 =
     λ none k.
     let low = k.low_turns p in let fill = k.fill in let few = c.args.self.now.few in
-    let one : c.saturating-add.result ≡ suc (turn f p) = omega (arith, c.saturating-add.ensures) in
+    let one : c.saturating_add.result ≡ suc (turn f p) = omega (arith, c.saturating_add.ensures) in
     same_floor _ _ f.limit f.written f.written _ _ c.begin.ensures.left refl (ap (set f.turns p) one) ∙
     sym (ap (λ x. x.0) (taken (start_refusal b.means f p o) f (start_taken b.steps b.means f p o, tt) none)) in
     record {

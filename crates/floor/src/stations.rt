@@ -9,7 +9,7 @@ use boards::station::Station;
 // Is there a station of that number?
 pub fn exists<B: Board>(board: &B, station: usize) -> bool
     ensures within { result ≡ true → station < 17 }
-    ensures told { result ≡ exists_of means (model board.now) station }
+    ensures told { result ≡ exists_of B.means (B.model board.now) station }
 {
     1 <= station && station <= board.stations()
 }
@@ -17,7 +17,7 @@ pub fn exists<B: Board>(board: &B, station: usize) -> bool
 // How many stations wait uncounted.
 pub fn uncounted<B: Board>(board: &B) -> usize
     ensures few { result ≤ 16 }
-    ensures told { result ≡ uncounted_of means (model board.now) }
+    ensures told { result ≡ uncounted_of B.means (B.model board.now) }
 {
     let stations = board.stations();
     let mut number = 0;
@@ -31,7 +31,7 @@ pub fn uncounted<B: Board>(board: &B) -> usize
 
 // Is every station free?
 pub fn all_free<B: Board>(board: &B) -> bool
-    ensures { result ≡ all_free_of means (model board.now) }
+    ensures { result ≡ all_free_of B.means (B.model board.now) }
 {
     for station in 1..=board.stations() {
         let Station::Free = board.station(station) else {

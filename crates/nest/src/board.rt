@@ -29,13 +29,13 @@ impl<K: Key> Board for Nest<K> {
 
     ghost model = { model_of };
 
-    ghost plain = { plain_nest before };
+    ghost plain = { plain_nest K.before };
 
-    ghost steps = { steps_of before };
+    ghost steps = { steps_of K.before };
 
-    ghost means = { meaning before };
+    ghost means = { meaning K.before };
 
-    ghost sound = { Sound before };
+    ghost sound = { Sound K.before };
 
     ghost laws = { Laws.laws K.Key.total };
 

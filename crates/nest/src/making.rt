@@ -43,8 +43,8 @@ impl<K: Key> Nest<K> {
     pub fn new(stations: usize, size: usize, nodes: Vec<Node<K>>, works: Vec<Work<K>>) -> Nest<K>
         requires { refusal stations size (vec_len nodes) (vec_len works) ≡ accepted }
         ensures is { model_of result ≡ made stations size nodes.items }
-        ensures sound { Sound before (model_of result) }
-        ensures fresh { Fresh (means before) [] (model_of result) }
+        ensures sound { Sound K.before (model_of result) }
+        ensures fresh { Fresh (means K.before) [] (model_of result) }
     {
         let mut nodes = nodes;
         let mut works = works;

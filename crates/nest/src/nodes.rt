@@ -91,7 +91,7 @@ impl<K: Copy> Nest<K> {
 impl<K: Key> Nest<K> {
     // Is the node's key after this one?
     pub(crate) fn is_after(&self, n: usize, key: K) -> bool
-        ensures { result ≡ is_after before key (key_at (model_of self.now).nodes n) }
+        ensures { result ≡ is_after K.before key (key_at (model_of self.now).nodes n) }
     {
         match n {
             FRONT => false,
@@ -105,7 +105,7 @@ impl<K: Key> Nest<K> {
 
     // Is the node's key this one?
     pub(crate) fn is_key(&self, n: usize, key: K) -> bool
-        ensures { result ≡ is_key before key (key_at (model_of self.now).nodes n) }
+        ensures { result ≡ is_key K.before key (key_at (model_of self.now).nodes n) }
     {
         match n {
             FRONT | BACK => false,

@@ -68,7 +68,7 @@ impl<K: Copy> Nest<K> {
 impl<K: Key> Nest<K> {
     // Is the key's place between `here` and `next`?
     fn is_place(&self, registers: Registers, key: K) -> bool
-        ensures { result ≡ is_place before (model_of self.now).nodes registers key }
+        ensures { result ≡ is_place K.before (model_of self.now).nodes registers key }
     {
         !self.is_after(node(registers.here), key) && self.is_after(node(registers.next), key)
     }
@@ -76,8 +76,8 @@ impl<K: Key> Nest<K> {
     // Rule F, once the key's place is found behind an unmarked node: a find is answered there and then, an add of a key
     // that is there and a drop of one that is missing too. Any other add lets its own node lead to `next`.
     fn decide(&mut self, op: NestOp<K>, own: Option<usize>, registers: Registers) -> Step
-        ensures told { result ≡ (decided before op own (is_key before (key_of op) (key_at (model_of self.old).nodes (node_of registers.here))) registers (model_of self.old).nodes).1 }
-        ensures left { model_of self.new ≡ nodes_of (model_of self.old) (decided before op own (is_key before (key_of op) (key_at (model_of self.old).nodes (node_of registers.here))) registers (model_of self.old).nodes).0 }
+        ensures told { result ≡ (decided K.before op own (is_key K.before (key_of op) (key_at (model_of self.old).nodes (node_of registers.here))) registers (model_of self.old).nodes).1 }
+        ensures left { model_of self.new ≡ nodes_of (model_of self.old) (decided K.before op own (is_key K.before (key_of op) (key_at (model_of self.old).nodes (node_of registers.here))) registers (model_of self.old).nodes).0 }
     {
         let found = self.is_key(node(registers.here), key_of(op));
         match (op, found) {
@@ -102,8 +102,8 @@ impl<K: Key> Nest<K> {
         phase: Phase,
         registers: Registers,
     ) -> Step
-        ensures told { result ≡ (followed before op own phase (is_marked registers.mark) registers (model_of self.old).nodes).1 }
-        ensures left { model_of self.new ≡ nodes_of (model_of self.old) (followed before op own phase (is_marked registers.mark) registers (model_of self.old).nodes).0 }
+        ensures told { result ≡ (followed K.before op own phase (is_marked registers.mark) registers (model_of self.old).nodes).1 }
+        ensures left { model_of self.new ≡ nodes_of (model_of self.old) (followed K.before op own phase (is_marked registers.mark) registers (model_of self.old).nodes).0 }
     {
         let key = key_of(op);
         let marked = registers.mark == Some(true);

@@ -18,7 +18,7 @@ pub struct PlainNest<K> {
 
 // Is neither key before the other?
 fn is_same<K: Key>(a: &K, b: &K) -> bool
-    ensures { result ≡ same_key before a.now b.now }
+    ensures { result ≡ same_key K.before a.now b.now }
 {
     !a.is_before(b) && !b.is_before(a)
 }
@@ -42,7 +42,7 @@ impl<K: Key> PlainNest<K> {
 
     // Where the key stands, if it is in the nest.
     fn find(&self, key: &K) -> Option<usize>
-        ensures { Stands before key.now self.now.keys.items result }
+        ensures { Stands K.before key.now self.now.keys.items result }
     {
         for (place, other) in self.keys.iter().enumerate() {
             if is_same(key, other) {
@@ -54,7 +54,7 @@ impl<K: Key> PlainNest<K> {
 
     // Where the key belongs: at the first key that is not before it.
     fn place(&self, key: &K) -> usize
-        ensures { Belongs before key.now self.now.keys.items result }
+        ensures { Belongs K.before key.now self.now.keys.items result }
     {
         for (place, other) in self.keys.iter().enumerate() {
             if !other.is_before(key) {
@@ -66,14 +66,14 @@ impl<K: Key> PlainNest<K> {
 
     // Is the key in the nest?
     pub fn holds(&self, key: &K) -> bool
-        ensures { result ≡ has before key.now self.now.keys.items }
+        ensures { result ≡ has K.before key.now self.now.keys.items }
     {
         self.find(key).is_some()
     }
 
     // Inserts the key where it belongs, unless it is there.
     pub fn add(&mut self, key: K) -> Result<NestAnswer, Refusal>
-        ensures { Applied (nest before) (nest_grows before) (NestOp.Add key) self.old.keys.items self.new.keys.items result }
+        ensures { Applied (nest K.before) (nest_grows K.before) (NestOp.Add key) self.old.keys.items self.new.keys.items result }
     {
         if self.holds(&key) {
             return Ok(NestAnswer::There);
@@ -85,7 +85,7 @@ impl<K: Key> PlainNest<K> {
 
     // Removes the key, if it is there.
     pub fn remove(&mut self, key: &K) -> NestAnswer
-        ensures { (self.new.keys.items, result) ≡ (nest before).apply (NestOp.Drop key.now) self.old.keys.items }
+        ensures { (self.new.keys.items, result) ≡ (nest K.before).apply (NestOp.Drop key.now) self.old.keys.items }
     {
         match self.find(key) {
             Some(place) => {
@@ -108,13 +108,13 @@ impl<K: Key> PlainMachine for PlainNest<K> {
 
     ghost state = { λ s. s.keys.items };
 
-    ghost machine = { nest before };
+    ghost machine = { nest K.before };
 
-    ghost grows = { nest_grows before };
+    ghost grows = { nest_grows K.before };
 
     fn apply(&mut self, op: &NestOp<K>) -> Result<NestAnswer, Refusal>
-        ensures applied { Applied (nest before) (nest_grows before) op.now self.old.keys.items self.new.keys.items result }
-        ensures ascends { Ascending before self.old.keys.items → Ascending before self.new.keys.items }
+        ensures applied { Applied (nest K.before) (nest_grows K.before) op.now self.old.keys.items self.new.keys.items result }
+        ensures ascends { Ascending K.before self.old.keys.items → Ascending K.before self.new.keys.items }
     {
         match *op {
             NestOp::Add(key) => self.add(key),

@@ -21,21 +21,21 @@ impl<B: Board, P> Floor<B, P> {
 
     // How many lines the ledger has at most.
     pub fn limit(&self) -> usize
-        ensures { result ≡ (floor_of model self.now).limit }
+        ensures { result ≡ (floor_of B.model self.now).limit }
     {
         self.limit
     }
 
     // How many lines are written.
     pub fn written(&self) -> usize
-        ensures { result ≡ (floor_of model self.now).written }
+        ensures { result ≡ (floor_of B.model self.now).written }
     {
         self.written
     }
 
     // How many starts of the station were taken, if there is such a station.
     pub fn turn(&self, station: usize) -> Option<usize>
-        ensures { result ≡ (if exists_of means (model self.now.board) station then Some (turn_of (floor_of model self.now) station) else None) }
+        ensures { result ≡ (if exists_of B.means (B.model self.now.board) station then Some (turn_of (floor_of B.model self.now) station) else None) }
     {
         if exists(&self.board, station) {
             Some(self.turns[station])
@@ -49,8 +49,8 @@ impl<B: Board, P> Floor<B, P> {
         &self,
         ledger: &'a [Line<B::Op, B::Answer>],
     ) -> Result<&'a [Line<B::Op, B::Answer>], Refusal>
-        ensures taken { is_ok result ≡ nat_le (floor_of model self.now).limit (length ledger.now) }
-        ensures told { MatchResult result (λ part. part.now ≡ written_lines (floor_of model self.now) ledger.now) (λ reason. reason ≡ ShortTable) }
+        ensures taken { is_ok result ≡ nat_le (floor_of B.model self.now).limit (length ledger.now) }
+        ensures told { MatchResult result (λ part. part.now ≡ written_lines (floor_of B.model self.now) ledger.now) (λ reason. reason ≡ ShortTable) }
     {
         if ledger.len() < self.limit {
             return Err(Refusal::ShortTable);
@@ -60,8 +60,8 @@ impl<B: Board, P> Floor<B, P> {
 
     // Writes the contents to the front of the list.
     pub fn show(&self, list: &mut [B::Item]) -> Result<(), Refusal>
-        ensures told { result ≡ (show_of plain means (floor_of model self.now) list.old).1 }
-        ensures left { list.new ≡ (show_of plain means (floor_of model self.now) list.old).0 }
+        ensures told { result ≡ (show_of B.plain B.means (floor_of B.model self.now) list.old).1 }
+        ensures left { list.new ≡ (show_of B.plain B.means (floor_of B.model self.now) list.old).0 }
     {
         if self.board.show(list) {
             Ok(())

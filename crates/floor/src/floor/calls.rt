@@ -14,10 +14,10 @@ use keys::refusal::Refusal;
 impl<B: Board> Floor<B, Open> {
     // Hands an operation to a free station.
     pub fn start(&mut self, station: usize, op: &B::Op) -> Result<(), Refusal>
-        ensures told { result ≡ (start_of_lem steps means (floor_of model self.old) station op.now).1 }
+        ensures told { result ≡ (start_of_lem B.steps B.means (floor_of B.model self.old) station op.now).1 }
         ensures back { is_ok result ≡ false → self.new ≡ self.old }
-        ensures left { Fits means sound (floor_of model self.old) → floor_of model self.new ≡ (start_of_lem steps means (floor_of model self.old) station op.now).0 }
-        ensures fits { Fits means sound (floor_of model self.old) → Fits means sound (floor_of model self.new) }
+        ensures left { Fits B.means B.sound (floor_of B.model self.old) → floor_of B.model self.new ≡ (start_of_lem B.steps B.means (floor_of B.model self.old) station op.now).0 }
+        ensures fits { Fits B.means B.sound (floor_of B.model self.old) → Fits B.means B.sound (floor_of B.model self.new) }
     {
         if let Some(reason) = self.start_refusal(station, op) {
             return Err(reason);
@@ -28,7 +28,7 @@ impl<B: Board> Floor<B, Open> {
 
     fn start_refusal(&self, station: usize, op: &B::Op) -> Option<Refusal>
         ensures within { result ≡ None → station < 17 }
-        ensures told { result ≡ start_refusal_of means (floor_of model self.now) station op.now }
+        ensures told { result ≡ start_refusal_of B.means (floor_of B.model self.now) station op.now }
     {
         if !exists(&self.board, station) {
             return Some(Refusal::NoSuchStation);
@@ -48,8 +48,8 @@ impl<B: Board> Floor<B, Open> {
     // One begin of the board, and the station's next turn.
     fn begin(&mut self, station: usize, op: &B::Op)
         requires { station < 17 }
-        ensures left { start_refusal_of means (floor_of model self.old) station op.now ≡ None → Fits means sound (floor_of model self.old) → floor_of model self.new ≡ (start_of_lem steps means (floor_of model self.old) station op.now).0 }
-        ensures fits { start_refusal_of means (floor_of model self.old) station op.now ≡ None → Fits means sound (floor_of model self.old) → Fits means sound (floor_of model self.new) }
+        ensures left { start_refusal_of B.means (floor_of B.model self.old) station op.now ≡ None → Fits B.means B.sound (floor_of B.model self.old) → floor_of B.model self.new ≡ (start_of_lem B.steps B.means (floor_of B.model self.old) station op.now).0 }
+        ensures fits { start_refusal_of B.means (floor_of B.model self.old) station op.now ≡ None → Fits B.means B.sound (floor_of B.model self.old) → Fits B.means B.sound (floor_of B.model self.new) }
     {
         let _ = self.board.begin(station, op);
         // on a sound board no turn passes the limit
@@ -62,10 +62,10 @@ impl<B: Board> Floor<B, Open> {
         station: usize,
         ledger: &mut [Line<B::Op, B::Answer>],
     ) -> Result<(Outcome, Option<B::Answer>), Refusal>
-        ensures told { result ≡ (touch_of steps means (floor_of model self.old) station ledger.old).1 }
+        ensures told { result ≡ (touch_of B.steps B.means (floor_of B.model self.old) station ledger.old).1 }
         ensures back { is_ok result ≡ false → (self.new ≡ self.old) × (ledger.new ≡ ledger.old) }
-        ensures left { Fits means sound (floor_of model self.old) → (floor_of model self.new, ledger.new) ≡ (touch_of steps means (floor_of model self.old) station ledger.old).0 }
-        ensures fits { Fits means sound (floor_of model self.old) → Fits means sound (floor_of model self.new) }
+        ensures left { Fits B.means B.sound (floor_of B.model self.old) → (floor_of B.model self.new, ledger.new) ≡ (touch_of B.steps B.means (floor_of B.model self.old) station ledger.old).0 }
+        ensures fits { Fits B.means B.sound (floor_of B.model self.old) → Fits B.means B.sound (floor_of B.model self.new) }
     {
         if let Some(reason) = self.touch_refusal(station, ledger.len()) {
             return Err(reason);
@@ -76,7 +76,7 @@ impl<B: Board> Floor<B, Open> {
     fn touch_refusal(&self, station: usize, lines: usize) -> Option<Refusal>
         ensures within { result ≡ None → station < 17 }
         ensures long { result ≡ None → self.now.limit ≤ lines }
-        ensures told { result ≡ touch_refusal_of means (floor_of model self.now) station lines }
+        ensures told { result ≡ touch_refusal_of B.means (floor_of B.model self.now) station lines }
     {
         if lines < self.limit {
             return Some(Refusal::ShortTable);
@@ -98,9 +98,9 @@ impl<B: Board> Floor<B, Open> {
         ledger: &mut [Line<B::Op, B::Answer>],
     ) -> (Outcome, Option<B::Answer>)
         requires { (station < 17) × (self.old.limit ≤ length ledger.old) }
-        ensures told { result ≡ (steps.touch (model self.old.board) station).1 }
-        ensures left { touch_refusal_of means (floor_of model self.old) station (length ledger.old) ≡ None → Fits means sound (floor_of model self.old) → (floor_of model self.new, ledger.new) ≡ (touch_of steps means (floor_of model self.old) station ledger.old).0 }
-        ensures fits { touch_refusal_of means (floor_of model self.old) station (length ledger.old) ≡ None → Fits means sound (floor_of model self.old) → Fits means sound (floor_of model self.new) }
+        ensures told { result ≡ (B.steps.touch (B.model self.old.board) station).1 }
+        ensures left { touch_refusal_of B.means (floor_of B.model self.old) station (length ledger.old) ≡ None → Fits B.means B.sound (floor_of B.model self.old) → (floor_of B.model self.new, ledger.new) ≡ (touch_of B.steps B.means (floor_of B.model self.old) station ledger.old).0 }
+        ensures fits { touch_refusal_of B.means (floor_of B.model self.old) station (length ledger.old) ≡ None → Fits B.means B.sound (floor_of B.model self.old) → Fits B.means B.sound (floor_of B.model self.new) }
     {
         let was = self.board.station(station);
         let (outcome, answer) = self.board.touch(station);
@@ -116,7 +116,7 @@ impl<B: Board> Floor<B, Open> {
         ledger: &mut [Line<B::Op, B::Answer>],
     )
         requires { (station < 17) × (self.old.limit ≤ length ledger.old) }
-        ensures { (is_some counted ≡ true → self.old.written < self.old.limit) → (floor_of model self.new, ledger.new) ≡ enter_of (floor_of model self.old) station ledger.old counted }
+        ensures { (is_some counted ≡ true → self.old.written < self.old.limit) → (floor_of B.model self.new, ledger.new) ≡ enter_of (floor_of B.model self.old) station ledger.old counted }
     {
         if let Some((operation, answer)) = counted {
             if self.written < self.limit {
@@ -138,10 +138,10 @@ impl<B: Board> Floor<B, Open> {
 
     // Gives the answer of a ready station, which is free then.
     pub fn collect(&mut self, station: usize) -> Result<B::Answer, Refusal>
-        ensures told { result ≡ (collect_of steps means (floor_of model self.old) station).1 }
+        ensures told { result ≡ (collect_of B.steps B.means (floor_of B.model self.old) station).1 }
         ensures back { is_ok result ≡ false → self.new ≡ self.old }
-        ensures left { floor_of model self.new ≡ (collect_of steps means (floor_of model self.old) station).0 }
-        ensures fits { Fits means sound (floor_of model self.old) → Fits means sound (floor_of model self.new) }
+        ensures left { floor_of B.model self.new ≡ (collect_of B.steps B.means (floor_of B.model self.old) station).0 }
+        ensures fits { Fits B.means B.sound (floor_of B.model self.old) → Fits B.means B.sound (floor_of B.model self.new) }
     {
         if !exists(&self.board, station) {
             return Err(Refusal::NoSuchStation);
@@ -159,8 +159,8 @@ impl<B: Board> Floor<B, Open> {
 
     // One release of the board.
     fn release(&mut self, station: usize)
-        ensures left { floor_of model self.new ≡ with_board (floor_of model self.old) (steps.release (model self.old.board) station) }
-        ensures fits { Fits means sound (floor_of model self.old) → Fits means sound (floor_of model self.new) }
+        ensures left { floor_of B.model self.new ≡ with_board (floor_of B.model self.old) (B.steps.release (B.model self.old.board) station) }
+        ensures fits { Fits B.means B.sound (floor_of B.model self.old) → Fits B.means B.sound (floor_of B.model self.new) }
     {
         self.board.release(station);
     }

@@ -11,7 +11,7 @@ use keys::refusal::Refusal;
 impl<B: Board> Floor<B, Open> {
     // Is every station free, so that the floor can be closed?
     pub fn check_close(&self) -> Result<(), Refusal>
-        ensures { result ≡ checked (close_refusal means (floor_of model self.now)) }
+        ensures { result ≡ checked (close_refusal B.means (floor_of B.model self.now)) }
     {
         if !all_free(&self.board) {
             return Err(Refusal::StationsBusy);
@@ -22,7 +22,7 @@ impl<B: Board> Floor<B, Open> {
     // The same floor, closed.
     pub fn close(self) -> Floor<B, Closed>
         ensures over { result.board ≡ self.board }
-        ensures left { floor_of model result ≡ floor_of model self }
+        ensures left { floor_of B.model result ≡ floor_of B.model self }
     {
         let Floor {
             board,

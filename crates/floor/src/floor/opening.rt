@@ -17,7 +17,7 @@ impl<B: Board> Floor<B, Open> {
         limit: usize,
         ledger: &[Line<B::Op, B::Answer>],
     ) -> Result<(), Refusal>
-        ensures { result ≡ checked (open_refusal means (model board.now) limit (length ledger.now)) }
+        ensures { result ≡ checked (open_refusal B.means (B.model board.now) limit (length ledger.now)) }
     {
         if limit < 1 || limit > 1024 {
             return Err(Refusal::LedgerLimit);
@@ -35,9 +35,9 @@ impl<B: Board> Floor<B, Open> {
     pub fn open(board: B, limit: usize) -> Floor<B, Open>
         requires { (1 ≤ limit) × (limit ≤ 1024) }
         ensures over { result.board ≡ board }
-        ensures left { floor_of model result ≡ opened (model board) limit }
-        ensures fits { sound (model board) → all_free_of means (model board) ≡ true → Fits means sound (floor_of model result) }
-        ensures law { Opening plain steps means sound (floor_of model result) }
+        ensures left { floor_of B.model result ≡ opened (B.model board) limit }
+        ensures fits { B.sound (B.model board) → all_free_of B.means (B.model board) ≡ true → Fits B.means B.sound (floor_of B.model result) }
+        ensures law { Opening B.plain B.steps B.means B.sound (floor_of B.model result) }
     {
         lawful(Floor {
             board,
@@ -51,10 +51,10 @@ impl<B: Board> Floor<B, Open> {
 
 // A floor just opened, as it is: what holds of it and of every list of calls that follow.
 fn lawful<B: Board>(floor: Floor<B, Open>) -> Floor<B, Open>
-    requires { floor_of model floor ≡ opened (model floor.board) floor.limit }
+    requires { floor_of B.model floor ≡ opened (B.model floor.board) floor.limit }
     ensures same { result ≡ floor }
-    ensures fits { sound (model floor.board) → all_free_of means (model floor.board) ≡ true → Fits means sound (floor_of model result) }
-    ensures law { Opening plain steps means sound (floor_of model result) }
+    ensures fits { B.sound (B.model floor.board) → all_free_of B.means (B.model floor.board) ≡ true → Fits B.means B.sound (floor_of B.model result) }
+    ensures law { Opening B.plain B.steps B.means B.sound (floor_of B.model result) }
 {
     floor
 }

@@ -8,5 +8,5 @@ invariant-loop-rest l =
     (length l.rest ≤ length l.line)
     × (before (map lexeme (vec_items l.found)) (lexed l.number (length l.line - length l.rest + 1) 0 l.rest) ≡ tokens_of l.number l.line)
 
-abbrev pub decreases_loop-rest : goal.decreases_loop-rest
-decreases_loop-rest l = length l.rest
+abbrev pub decreases-loop-rest : goal.decreases-loop-rest
+decreases-loop-rest l = length l.rest

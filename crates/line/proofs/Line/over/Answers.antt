@@ -63,7 +63,17 @@ invariant_of-result g c =
     (c.truncate.ensures.items ∙ ap (take (m + 1)) c.requires.links)
     (free_front s (vec_len st) _ (vec_items st) c.truncate-2.ensures.items c.requires.free z.long_seats) in
     let two = b.some_nodes in
-    (two, (b.few_nodes, (b.some_seats, (b.few_seats, (omega arith, (omega arith, (omega arith, (b.nexts, (b.seats, tt)))))))))
+    record {
+      some_nodes = two;
+      few_nodes = b.few_nodes;
+      some_seats = b.some_seats;
+      few_seats = b.few_seats;
+      fits = omega arith;
+      heads = omega arith;
+      tails = omega arith;
+      nexts = b.nexts;
+      sits = b.seats;
+    }
 
 pub returns : goal.returns
 returns g c =

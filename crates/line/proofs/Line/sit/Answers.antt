@@ -7,34 +7,18 @@ use Rattle.line.proofs.Line.sit.Goals as goal
 pub invariant_of-self : goal.invariant_of-self
 invariant_of-self g c =
     let l = c.args.self.now in
-    let n : length (vec_items l.seats) ≡ length (set (vec_items l.seats) c.saturating_sub-at.result c.args.seat) = sym (length-set (vec_items l.seats) c.saturating_sub-at.result c.args.seat) in (
-      l.some_nodes,
-      (
-        l.few_nodes,
-        (
-          omega arith,
-          (
-            omega arith,
-            (
-              l.fits,
-              (
-                l.heads,
-                (
-                  l.tails,
-                  (
-                    l.nexts,
-                    (
-                      seat_within (length (vec_items l.nodes)) (vec_items l.seats) c.saturating_sub-at.result c.args.seat l.sits c.requires,
-                      tt,
-                    ),
-                  ),
-                ),
-              ),
-            ),
-          ),
-        ),
-      ),
-    )
+    let n : length (vec_items l.seats) ≡ length (set (vec_items l.seats) c.saturating_sub-at.result c.args.seat) = sym (length-set (vec_items l.seats) c.saturating_sub-at.result c.args.seat) in
+    record {
+      some_nodes = l.some_nodes;
+      few_nodes = l.few_nodes;
+      some_seats = omega arith;
+      few_seats = omega arith;
+      fits = l.fits;
+      heads = l.heads;
+      tails = l.tails;
+      nexts = l.nexts;
+      sits = seat_within (length (vec_items l.nodes)) (vec_items l.seats) c.saturating_sub-at.result c.args.seat l.sits c.requires;
+    }
 
 pub returns-else-at-len : goal.returns-else-at-len
 returns-else-at-len g c =

@@ -11,28 +11,15 @@ invariant_of-self g c =
     let l = c.args.self.now in
     let ns = vec_items l.nodes in
     let y : Node g.row.E.Denot = record { element = c.args.element; next = None } in
-    let e : length (set ns l.taken y) ≡ length ns = length-set ns l.taken y in (
-      omega arith,
-      (
-        omega arith,
-        (
-          l.some_seats,
-          (
-            l.few_seats,
-            (
-              omega arith,
-              (
-                omega arith,
-                (
-                  omega arith,
-                  (
-                    subst (λ (k : ℕ). (a : ℕ) → in_next k (next_of (set ns l.taken y) a) ≡ true) (sym e) (set_within (length ns) ns l.taken y l.nexts refl),
-                    (subst (λ (k : ℕ). (i : ℕ) → in_seat k (seat_at (vec_items l.seats) i) ≡ true) (sym e) l.sits, tt),
-                  ),
-                ),
-              ),
-            ),
-          ),
-        ),
-      ),
-    )
+    let e : length (set ns l.taken y) ≡ length ns = length-set ns l.taken y in
+    record {
+      some_nodes = omega arith;
+      few_nodes = omega arith;
+      some_seats = l.some_seats;
+      few_seats = l.few_seats;
+      fits = omega arith;
+      heads = omega arith;
+      tails = omega arith;
+      nexts = subst (λ (k : ℕ). (a : ℕ) → in_next k (next_of (set ns l.taken y) a) ≡ true) (sym e) (set_within (length ns) ns l.taken y l.nexts refl);
+      sits = subst (λ (k : ℕ). (i : ℕ) → in_seat k (seat_at (vec_items l.seats) i) ≡ true) (sym e) l.sits;
+    }

@@ -8,7 +8,7 @@ use Rattle.line.proofs.making.unlink.Goals as goal
 
 pub loop-i-preserved : goal.loop-i-preserved
 loop-i-preserved g c = (
-  mapped_next (toward None) (vec_items c.args.nodes.now) (vec_items c.loop-i.nodes) c.loop-i.i c.index-mut.result.now (omega arith) c.loop-i.invariant.0 c.index-mut.ensures.value,
+  mapped_next (toward None) (vec_items c.args.nodes.now) (vec_items c.loop-i.nodes) c.loop-i.i c.index_mut.result.now (omega arith) c.loop-i.invariant.0 c.index_mut.ensures.value,
   c.loop-i.invariant.1,
 )
 

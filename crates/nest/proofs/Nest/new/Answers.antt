@@ -36,7 +36,14 @@ invariant_of-result g c =
     let free = cleared S (vec_len c.args.works) (vec_len c.truncate-2.new.self) (vec_items c.clear.new.works) c.clear.ensures c.truncate-2.ensures.len z.long_works in
     let n : length (vec_items c.clear.new.works) ≡ S = ap length free ∙ length-replicate {A = Work g.row.K.Denot} S Free in
     let m : length (vec_items c.join.new.nodes) ≡ N + 2 = ap length (c.join.ensures ∙ ap joined c.truncate.ensures.items) ∙ made_length S N ns long in
-    (omega (arith, z.some_stations), (omega (arith, z.few_stations), (z.some_nodes, (z.few_nodes, (m, (omega arith, tt))))))
+    record {
+      some_stations = omega (arith, z.some_stations);
+      few_stations = omega (arith, z.few_stations);
+      some_nodes = z.some_nodes;
+      few_nodes = z.few_nodes;
+      tabled = m;
+      enough = omega arith;
+    }
 
 pub returns : goal.returns
 returns g c =

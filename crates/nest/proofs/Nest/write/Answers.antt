@@ -8,7 +8,7 @@ use Rattle.nest.proofs.Nest.write.Goals as goal
 
 pub returns-then-n-len : goal.returns-then-n-len
 returns-then-n-len g c =
-    let ns = vec_items c.args.self.now.nodes in let x = c.index-mut.result.now in
+    let ns = vec_items c.args.self.now.nodes in let x = c.index_mut.result.now in
     let e : slice_get ns c.args.n ≡ Some x = slice_get_read ns (length ns) c.args.n x refl (omega arith) (search rules) in
     ap (nodes_of (model_of c.args.self.now)) (sym (written_some ns c.args.n c.args.cell x e))
 

@@ -8,5 +8,5 @@ invariant-loop-left g l =
     string_bytes l.out ++ joined (on_line (entry_text g.O.Text.bytes g.R.Text.bytes)) l.left
     ≡ string_bytes l.initial.out ++ joined (on_line (entry_text g.O.Text.bytes g.R.Text.bytes)) l.lines
 
-abbrev pub decreases_loop-left : goal.decreases_loop-left
-decreases_loop-left g l = length l.left
+abbrev pub decreases-loop-left : goal.decreases-loop-left
+decreases-loop-left g l = length l.left

@@ -21,5 +21,5 @@ invariant-loop-rest g l =
     then (string_bytes l.out) (ran b.steps b.means at text report (state (floor_of b.model l.floor) l.ledger) l.number (lines_of l.rest))
     ≡ then (string_bytes l.initial.out) (ran b.steps b.means at text report (state (floor_of b.model l.initial.floor) l.initial.ledger) 2 (lines_of l.script))))
 
-abbrev pub decreases_loop-rest : goal.decreases_loop-rest
-decreases_loop-rest g l = length l.rest
+abbrev pub decreases-loop-rest : goal.decreases-loop-rest
+decreases-loop-rest g l = length l.rest

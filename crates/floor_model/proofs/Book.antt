@@ -12,7 +12,7 @@ use Rattle.boards.specs.declared.station.Station.{Station}
 use Rattle.boards.specs.declared.station.Station.TheVariants.{Free, Uncounted, Counted, Ready}
 use Rattle.floor_model.specs.declared.line.Line.{Line}
 use Rattle.floor_model.specs.Floor.{line, tells_counted, tells_ready}
-use Rattle.floor_model.specs.History.{Event, started, touched, collected, shown, refused, Has, last, past, starts, collects, counts, waits, Written, Collects, HasLine}
+use Rattle.floor_model.specs.History.{Event, started, touched, collected, shown, refused, Has, last, past, starts, collects, counts, waits, Written, HasLine}
 use Rattle.floor_model.specs.Law.{replayed}
 use Rattle.floor_model.proofs.Lists.{impossible, nth_keep, nth_new, nth_cases, replay_line}
 use Rattle.floor_model.proofs.Histories.{has_cases, has_in, starts_same, starts_other, collects_same, collects_other, starts_below, starts_one, counts_before, written_later}

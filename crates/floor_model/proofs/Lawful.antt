@@ -1,5 +1,5 @@
 -- The law of a floor, from what every move keeps.
-use Rattle.std.proofs.Common.{◌≡◌, ℕ, suc, ◌+◌, ◌<◌, ◌≤◌, Bool, true, false, cond, not, ◌≢◌, ◌⊎◌, List, [], ◌∷◌, ◌++◌, length, take, set, Some, None, Option, sym, refl, ap, ◌∙◌, subst, inl, inr, ⊎_elim, append-nil, arith, length-take-le}
+use Rattle.std.proofs.Common.{◌≡◌, ℕ, suc, ◌+◌, ◌<◌, ◌≤◌, Bool, true, false, not, ◌≢◌, ◌⊎◌, List, [], ◌∷◌, ◌++◌, length, take, Some, None, Option, sym, refl, ap, ◌∙◌, subst, inl, inr, ⊎_elim, append-nil, arith, length-take-le}
 use lib.Seq.{take-set-le}
 use Rattle.std.proofs.lemmas.Bool.{le-ltb}
 use Rattle.keys.specs.declared.refusal.Refusal.TheVariants.{ShortTable, NoSuchStation, StillFree, AlreadyReady}
@@ -9,9 +9,9 @@ use Rattle.boards.specs.Laws.{Laws}
 use Rattle.boards.specs.declared.outcome.Outcome.{Outcome}
 use Rattle.boards.specs.declared.station.Station.{Station}
 use Rattle.boards.specs.declared.station.Station.TheVariants.{Free, Uncounted, Counted, Ready}
-use Rattle.floor_model.specs.Floor.{Floor, turn, is_ready, tells_ready, uncounted, refuse_if, taken_unless, touch_taken, opened}
-use Rattle.floor_model.specs.History.{State, Call, to_touch, Event, touched, touch_event, touches, does, after, history, Has, last, past, waits, Undisturbed}
-use Rattle.floor_model.specs.Law.{lines, replayed, ReadyWithin, Holds, Law}
+use Rattle.floor_model.specs.Floor.{is_ready, tells_ready, refuse_if, taken_unless, touch_taken, opened}
+use Rattle.floor_model.specs.History.{State, Call, to_touch, Event, touched, touch_event, touches, does, after, history, Has, last, past, Undisturbed}
+use Rattle.floor_model.specs.Law.{lines, ReadyWithin, Holds, Law}
 use Rattle.floor_model.proofs.Lists.{impossible, get_d_zeros}
 use Rattle.floor_model.proofs.Histories.{has_none, touches_same}
 use Rattle.floor_model.proofs.Stations.{all_free_none, all_free_each}

@@ -1,5 +1,5 @@
 -- What a call does, by the board's laws alone: it leaves all as it is, or it is one of four moves.
-use Rattle.std.proofs.Common.{◌≡◌, ℕ, suc, ◌+◌, ◌<◌, Bool, true, false, cond, not, eqb, leb, ◌≢◌, ◌⊎◌, List, length, set, Some, None, Ok, Err, Option, Result, sym, refl, ap, ◌∙◌, subst, inl, inr}
+use Rattle.std.proofs.Common.{◌≡◌, ℕ, suc, ◌+◌, ◌<◌, Bool, true, false, cond, not, eqb, ◌≢◌, ◌⊎◌, List, length, set, Some, None, Err, Option, sym, refl, ap, ◌∙◌, subst, inl, inr}
 use Rattle.std.proofs.lemmas.Bool.{and_from, eq-eqb, lt-ltb}
 use Rattle.keys.specs.declared.refusal.Refusal.{Refusal}
 use Rattle.keys.specs.declared.refusal.Refusal.TheVariants.{ShortTable, NoSuchStation, NotFree, StillFree, AlreadyReady, StillWaiting, LedgerFull, NoSpace, ShortList}
@@ -11,7 +11,7 @@ use Rattle.boards.specs.declared.outcome.Outcome.TheVariants as told
 use Rattle.boards.specs.declared.station.Station.{Station}
 use Rattle.boards.specs.declared.station.Station.TheVariants.{Free, Uncounted, Counted, Ready}
 use Rattle.floor_model.specs.declared.line.Line.{Line}
-use Rattle.floor_model.specs.Floor.{Floor, turn, with_board, line, is_ready, tells_counted, tells_ready, refuse_if, taken_unless, uncounted, entry, enter, start_taken, touch_taken, collect_at, listing}
+use Rattle.floor_model.specs.Floor.{turn, with_board, line, is_ready, tells_counted, tells_ready, refuse_if, taken_unless, uncounted, entry, enter, start_taken, touch_taken, collect_at, listing}
 use Rattle.floor_model.specs.History.{State, Call, to_start, to_touch, to_touch_beside, to_collect, to_show, Event, started, touched, collected, shown, refused, start_event, touch_event, collect_event, show_event, does}
 use Rattle.floor_model.proofs.Lists.{impossible}
 use Rattle.floor_model.proofs.Stations.{free_is}

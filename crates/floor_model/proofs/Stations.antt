@@ -1,5 +1,5 @@
 -- How many stations wait uncounted, as one station changes.
-use Rattle.std.proofs.Common.{◌≡◌, ℕ, zero, suc, ◌≤◌, Bool, true, false, cond, ◌&&◌, leb, ◌≢◌, sym, refl, ap, ◌∙◌, subst, ⊎_elim, arith, leb-true}
+use Rattle.std.proofs.Common.{◌≡◌, ℕ, zero, suc, ◌≤◌, Bool, true, false, cond, leb, ◌≢◌, sym, refl, ap, ◌∙◌, subst, ⊎_elim, arith, leb-true}
 use Rattle.std.proofs.lemmas.Bool.{and_parts, and_from, cases_eq, cond-false}
 use Rattle.boards.specs.Board.{Meaning, exists, is_free}
 use Rattle.boards.specs.Laws.{KeepsOthers}

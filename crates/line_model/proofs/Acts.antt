@@ -1,5 +1,5 @@
 -- What the code has in hand at a touch or a begin, turned into the terms of the touch table.
-use Rattle.std.proofs.Common.{◌≡◌, ℕ, ◌<◌, ◌≤◌, Bool, true, false, cond, not, eqb, leb, length, Some, None, Option, sym, refl, ap, ◌∙◌, ap₂, true≢false}
+use Rattle.std.proofs.Common.{◌≡◌, ℕ, ◌≤◌, Bool, true, false, cond, not, eqb, length, Some, None, Option, sym, refl, ap, ◌∙◌, ap₂, true≢false}
 use mathlib.Core.Bool.{false≢true}
 use Rattle.std.proofs.lemmas.Bool.{le-leb, and_from, and_left, and_right}
 use Rattle.plain_model.specs.declared.line_op.LineOp.{LineOp}
@@ -11,7 +11,7 @@ use Rattle.boards.specs.declared.outcome.Outcome.{Outcome}
 use Rattle.boards.specs.declared.outcome.Outcome.TheVariants as told
 use Rattle.line_model.specs.declared.seat.Seat.{Seat}
 use Rattle.line_model.specs.declared.seat.Seat.TheVariants.{Free, E1, E2, E3, E4, E5, E6, D1, D2, D3, D4, D5, Ready}
-use Rattle.line_model.specs.Nodes.{is_node, next_of, element_of}
+use Rattle.line_model.specs.Nodes.{is_node, element_of}
 use Rattle.line_model.specs.Seats.{seat_of, is_free_seat}
 use Rattle.line_model.specs.Line.{LineModel, act, touched, sit, next_set, head_set, with_head, after_e3, after_e4, after_d3, after_d5, has_space, can_begin, started, begun}
 

@@ -1,5 +1,5 @@
 -- The laws of begin.
-use Rattle.std.proofs.Common.{◌≡◌, ℕ, ◌+◌, ◌<◌, ◌≤◌, Bool, true, false, ◌&&◌, eqb, leb, ◌≢◌, List, length, set, Some, None, Option, sym, refl, ap, ◌∙◌, arith}
+use Rattle.std.proofs.Common.{◌≡◌, ℕ, ◌+◌, ◌<◌, ◌≤◌, true, ◌&&◌, leb, ◌≢◌, List, length, Some, None, sym, refl, ap, ◌∙◌, arith}
 use Rattle.std.proofs.lemmas.Bool.{leb-true, ltb-true, and_parts, cond_both, cond-true}
 use Rattle.plain_model.specs.declared.line_op.LineOp.{LineOp}
 use Rattle.plain_model.specs.declared.line_op.LineOp.TheVariants.{Put, Take}

@@ -1,14 +1,14 @@
 -- The chain and the seats after each kind of write, and that a step which keeps them keeps the line sound.
-use Rattle.std.proofs.Common.{◌≡◌, ℕ, suc, ◌+◌, ◌-◌, ◌<◌, ◌≤◌, Bool, true, false, cond, eqb, ◌≢◌, ◌⊎◌, List, length, set, Some, None, Option, sym, refl, ap, ◌∙◌, subst, inl, inr, add-one, arith, length-set}
+use Rattle.std.proofs.Common.{◌≡◌, ℕ, suc, ◌+◌, ◌-◌, ◌<◌, ◌≤◌, true, cond, eqb, ◌≢◌, List, length, set, Some, None, Option, sym, refl, ap, ◌∙◌, subst, inl, inr, add-one, arith, length-set}
 use Rattle.std.specs.List.{slice_get}
 use Rattle.std.proofs.lemmas.Bool.{cases_eq, cond_both}
 use Rattle.line_model.specs.declared.node.Node.{Node}
 use Rattle.line_model.specs.declared.seat.Seat.{Seat}
 use Rattle.line_model.specs.declared.seat.Seat.TheVariants.{Free, E1, E2, E3, E4, E5, E6, D1, D2, D3, D4, D5, Ready}
-use Rattle.line_model.specs.Nodes.{next_in, element_in, next_of, element_of, link, toward}
+use Rattle.line_model.specs.Nodes.{next_in, element_in, next_of, link}
 use Rattle.line_model.specs.Seats.{seat_of, own_of}
 use Rattle.line_model.specs.Line.{LineModel}
-use Rattle.line_model.specs.Sound.{Chain, Own, Linked, UpTo, Read, Seated, Sound, ranked}
+use Rattle.line_model.specs.Sound.{Chain, Own, Linked, UpTo, Read, Seated, Sound}
 use Rattle.line_model.proofs.Lists.{changed_length, nth_set_same, nth_set_other}
 use Rattle.line_model.proofs.Ranks.{put, put_same, put_other, ranked_on, ranked_more}
 use Rattle.line_model.proofs.Walk.{by_next, link_same, link_other, link_element, next_rank, none_last, chain_in}

@@ -1,5 +1,5 @@
 -- The distance of a waiting station is between 1 and 11, and its own touch lowers it.
-use Rattle.std.proofs.Common.{◌≡◌, ℕ, ◌+◌, ◌-◌, ◌<◌, ◌≤◌, Bool, true, false, cond, eqb, List, length, set, Some, None, Option, sym, refl, ap, ◌∙◌, subst, arith}
+use Rattle.std.proofs.Common.{◌≡◌, ℕ, ◌-◌, ◌<◌, ◌≤◌, Bool, true, false, cond, eqb, List, set, Some, None, Option, sym, refl, ap, ◌∙◌, subst, arith}
 use Rattle.std.proofs.lemmas.Bool.{eqb-true}
 use Rattle.std.proofs.lemmas.Bool.Decides.{nat_tests}
 use Rattle.plain_model.specs.declared.line_op.LineOp.TheVariants.{Put, Take}
@@ -9,10 +9,10 @@ use Rattle.boards.specs.Board.{is_waiting}
 use Rattle.line_model.specs.declared.node.Node.{Node}
 use Rattle.line_model.specs.declared.seat.Seat.{Seat}
 use Rattle.line_model.specs.declared.seat.Seat.TheVariants.{Free, E1, E2, E3, E4, E5, E6, D1, D2, D3, D4, D5, Ready}
-use Rattle.line_model.specs.Nodes.{is_node, next_of, element_of, link}
+use Rattle.line_model.specs.Nodes.{next_of, element_of, link}
 use Rattle.line_model.specs.Seats.{seat_of, station_of, is_free_seat}
 use Rattle.line_model.specs.Line.{LineModel, act, after_e3, after_e4, after_d3, after_d5}
-use Rattle.line_model.specs.Distance.{needs, from_e1, from_d1, from_e3, from_d3}
+use Rattle.line_model.specs.Distance.{needs}
 use Rattle.line_model.specs.Sound.{Chain, Seated, Sound}
 use Rattle.line_model.proofs.Walk.{next_rank, none_last, last_none}
 use Rattle.line_model.proofs.Seats.{seat_there, seat_same}

@@ -1,7 +1,6 @@
 -- A touch that counts does what the plain line does, and any other touch leaves the contents as they are.
-use Rattle.std.proofs.Common.{◌≡◌, ℕ, suc, ◌+◌, ◌-◌, ◌<◌, ◌≤◌, Bool, true, false, cond, eqb, List, [], ◌∷◌, ◌++◌, length, set, Some, None, Option, sym, refl, ap, ◌∙◌, subst, arith}
+use Rattle.std.proofs.Common.{◌≡◌, ℕ, suc, ◌-◌, Bool, true, false, eqb, List, [], ◌∷◌, ◌++◌, set, Some, None, Option, sym, refl, ap, ◌∙◌, subst, arith}
 use Rattle.std.proofs.lemmas.Bool.{eqb-true}
-use Rattle.plain_model.specs.declared.line_op.LineOp.{LineOp}
 use Rattle.plain_model.specs.declared.line_op.LineOp.TheVariants.{Put, Take}
 use Rattle.plain_model.specs.declared.line_op.LineAnswer.{LineAnswer}
 use Rattle.plain_model.specs.declared.line_op.LineAnswer.TheVariants as answer
@@ -10,8 +9,7 @@ use Rattle.boards.specs.declared.outcome.Outcome.{Outcome}
 use Rattle.boards.specs.declared.outcome.Outcome.TheVariants as told
 use Rattle.boards.specs.declared.station.Station.TheVariants as station
 use Rattle.boards.specs.Board.{is_waiting}
-use Rattle.boards.specs.Laws.{Touched, goes_uncounted, goes_counted, counts, counts_ready, readies}
-use Rattle.line_model.specs.declared.node.Node.{Node}
+use Rattle.boards.specs.Laws.{Touched, goes_uncounted, counts, counts_ready, readies}
 use Rattle.line_model.specs.declared.seat.Seat.{Seat}
 use Rattle.line_model.specs.declared.seat.Seat.TheVariants.{Free, E1, E2, E3, E4, E5, E6, D1, D2, D3, D4, D5, Ready}
 use Rattle.line_model.specs.Nodes.{next_of, element_of, link}

@@ -1,15 +1,13 @@
 -- A line that is made is sound, empty and free, over node tables of any content.
-use Rattle.std.proofs.Common.{◌≡◌, ℕ, zero, suc, ◌+◌, ◌-◌, ◌<◌, ◌≤◌, Bool, true, false, cond, ◌&&◌, ltb, leb, ◌≢◌, ◌⊎◌, List, [], ◌∷◌, map, length, get_or, take, replicate, Some, None, Err, Option, Result, sym, refl, ap, ◌∙◌, subst, inl, inr, arith, length-take}
+use Rattle.std.proofs.Common.{◌≡◌, ℕ, zero, suc, ◌+◌, ◌-◌, ◌<◌, ◌≤◌, Bool, true, false, cond, ◌&&◌, ltb, leb, ◌≢◌, ◌⊎◌, List, [], ◌∷◌, length, get_or, take, replicate, None, Err, sym, refl, ap, subst, inl, inr, arith}
 use lib.ListN.{length-replicate, length-map}
 use Rattle.std.proofs.lemmas.Bool.{and_parts, leb-true, ltb-true, lt-ltb, cases_eq, cond_both}
 use Rattle.std.proofs.lemmas.List.{length-take-le}
-use Rattle.keys.specs.declared.refusal.Refusal.{Refusal}
 use Rattle.keys.specs.declared.refusal.Refusal.TheVariants.{StationCount, LineSize, ShortTable}
 use Rattle.plain_model.specs.declared.line_op.LineOp.{LineOp}
 use Rattle.plain_model.specs.declared.line_op.LineOp.TheVariants.{Put, Take}
 use Rattle.boards.specs.Board.{Fresh}
 use Rattle.line_model.specs.declared.node.Node.{Node}
-use Rattle.line_model.specs.declared.seat.Seat.{Seat}
 use Rattle.line_model.specs.declared.seat.Seat.TheVariants.{Free}
 use Rattle.line_model.specs.Nodes.{next_of, toward}
 use Rattle.line_model.specs.Seats.{seat_of, station_of, own_of}
@@ -17,7 +15,7 @@ use Rattle.line_model.specs.Line.{LineModel, has_space}
 use Rattle.line_model.specs.Meaning.{means}
 use Rattle.line_model.specs.Fresh.{fresh, unlinked, checked, fine}
 use Rattle.line_model.specs.Sound.{Sound, Chain, Linked, Seated}
-use Rattle.line_model.proofs.Ranks.{put, put_same, put_other}
+use Rattle.line_model.proofs.Ranks.{put, put_other}
 use Rattle.line_model.proofs.Walk.{after_none}
 use Rattle.line_model.proofs.Chains.{never}
 

@@ -4,7 +4,7 @@ use Rattle.std.proofs.lemmas.Bool.{cond-false}
 use Rattle.plain_model.specs.Line.{line}
 use Rattle.boards.specs.Laws.{Laws}
 use Rattle.line_model.specs.Seats.{seat_of}
-use Rattle.line_model.specs.Line.{LineModel, can_begin, started, steps}
+use Rattle.line_model.specs.Line.{can_begin, started, steps}
 use Rattle.line_model.specs.Meaning.{means}
 use Rattle.line_model.specs.Sound.{Sound}
 use Rattle.line_model.proofs.Touches.{touch_sound}

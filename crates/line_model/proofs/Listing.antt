@@ -1,12 +1,12 @@
 -- A walk from Head that goes node by node: what is left of the contents after i nodes, and what it has written.
-use Rattle.std.proofs.Common.{◌≡◌, ℕ, zero, suc, ◌+◌, ◌-◌, ◌<◌, ◌≤◌, List, [], ◌∷◌, ◌++◌, map, length, get_or, take, drop, set, Some, None, Option, sym, refl, ap, ◌∙◌, ap₂, arith}
+use Rattle.std.proofs.Common.{◌≡◌, ℕ, suc, ◌+◌, ◌-◌, ◌<◌, ◌≤◌, List, [], ◌∷◌, ◌++◌, map, length, get_or, take, drop, set, Some, Option, sym, ap, ◌∙◌, ap₂, arith}
 use Rattle.std.specs.List.{slice_get}
 use Rattle.std.proofs.lemmas.List.{append_assoc, append-nil, take-append-drop, take_more_set, drop_more, drop-set-lt, drop_all, take_all, map_more, length-map, length-take-le, get_or_at, set_at}
 use Rattle.boards.specs.Board.{over}
 use Rattle.line_model.specs.declared.node.Node.{Node}
 use Rattle.line_model.specs.Nodes.{next_of, element_of}
 use Rattle.line_model.specs.Meaning.{after, prepend}
-use Rattle.line_model.proofs.Walk.{after_none, after_some}
+use Rattle.line_model.proofs.Walk.{after_some}
 
 module _ {E : Type 0} where
   -- of at most k elements, what follows node a after i of them

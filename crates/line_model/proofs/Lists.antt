@@ -1,5 +1,5 @@
 -- What stands at a place of a list after one place is written.
-use Rattle.std.proofs.Common.{◌≡◌, ℕ, zero, suc, ◌<◌, ◌≢◌, List, [], ◌∷◌, length, set, Some, None, Option, sym, refl, ap, ◌∙◌, arith}
+use Rattle.std.proofs.Common.{◌≡◌, ℕ, zero, suc, ◌<◌, ◌≢◌, List, [], ◌∷◌, length, set, Some, sym, refl, ap, arith}
 use Rattle.std.specs.List.{slice_get}
 use Rattle.line_model.specs.Nodes.{changed}
 

@@ -1,5 +1,5 @@
 -- A step that writes one seat leaves every other station as it is; what a touch keeps, and where it is idle.
-use Rattle.std.proofs.Common.{◌≡◌, ℕ, ◌-◌, ◌≤◌, Bool, true, false, eqb, leb, ◌≢◌, ◌⊎◌, length, set, Some, None, Option, sym, refl, ap, ◌∙◌, inl, inr, length-set}
+use Rattle.std.proofs.Common.{◌≡◌, ℕ, ◌-◌, ◌≤◌, Bool, true, false, eqb, leb, length, set, Some, None, Option, sym, refl, ap, ◌∙◌, inl, inr, length-set}
 use Rattle.std.proofs.lemmas.Bool.{leb-false, and_cases}
 use Rattle.plain_model.specs.declared.line_op.LineOp.TheVariants.{Put, Take}
 use Rattle.plain_model.specs.declared.line_op.LineAnswer.TheVariants as answer

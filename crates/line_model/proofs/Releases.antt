@@ -1,5 +1,5 @@
 -- The laws of release.
-use Rattle.std.proofs.Common.{◌≡◌, ℕ, ◌≤◌, Bool, true, false, ◌≢◌, length, Some, None, sym, refl, ap, ◌∙◌, arith}
+use Rattle.std.proofs.Common.{◌≡◌, ℕ, ◌≤◌, true, false, ◌≢◌, length, Some, sym, refl, ap, ◌∙◌, arith}
 use Rattle.std.proofs.lemmas.Bool.{cond_both, cond-true, cond-false}
 use Rattle.plain_model.specs.declared.line_op.LineOp.{LineOp}
 use Rattle.plain_model.specs.declared.line_op.LineOp.TheVariants.{Put, Take}

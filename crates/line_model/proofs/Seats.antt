@@ -1,8 +1,8 @@
 -- Reading and writing one seat of the station table.
-use Rattle.std.proofs.Common.{◌≡◌, ℕ, ◌-◌, ◌<◌, ◌≤◌, Bool, true, false, cond, ◌&&◌, leb, ◌≢◌, ◌⊎◌, List, length, get_or, set, sym, refl, ap, ◌∙◌, subst, inl, inr, arith, get_or-set_other, get_or-set_same}
+use Rattle.std.proofs.Common.{◌≡◌, ℕ, ◌-◌, ◌<◌, ◌≤◌, Bool, true, false, leb, ◌≢◌, List, length, get_or, set, sym, refl, ap, ◌∙◌, inl, inr, arith, get_or-set_other, get_or-set_same}
 use lib.ListN.{get_or-eq_default}
 use lib.Seq.{set_out}
-use Rattle.std.proofs.lemmas.Bool.{leb-true, leb-false, le-leb, lt-leb, cond_both, cases_lt, cases_eq}
+use Rattle.std.proofs.lemmas.Bool.{leb-true, le-leb, lt-leb, cond_both, cases_lt, cases_eq}
 use Rattle.line_model.specs.declared.seat.Seat.{Seat}
 use Rattle.line_model.specs.declared.seat.Seat.TheVariants.{Free}
 use Rattle.line_model.specs.Seats.{seat_of, is_free_seat}

@@ -1,5 +1,5 @@
 -- A touch keeps the line sound.
-use Rattle.std.proofs.Common.{◌≡◌, ℕ, suc, ◌-◌, ◌<◌, ◌≤◌, Bool, true, false, cond, eqb, ◌≢◌, ◌⊎◌, List, length, set, Some, None, Option, sym, refl, ap, ◌∙◌, subst, inl, inr, arith}
+use Rattle.std.proofs.Common.{◌≡◌, ℕ, suc, ◌-◌, ◌<◌, ◌≤◌, Bool, true, false, cond, eqb, ◌≢◌, List, length, set, Some, None, Option, sym, refl, ap, ◌∙◌, subst, inl, inr, arith}
 use Rattle.std.proofs.lemmas.Bool.{cases_eq, eqb-true, eqb-false}
 use Rattle.plain_model.specs.declared.line_op.LineOp.TheVariants.{Put, Take}
 use Rattle.plain_model.specs.declared.line_op.LineAnswer.TheVariants as answer
@@ -10,9 +10,9 @@ use Rattle.line_model.specs.declared.seat.Seat.TheVariants.{Free, E1, E2, E3, E4
 use Rattle.line_model.specs.Nodes.{next_of, element_of, link}
 use Rattle.line_model.specs.Seats.{seat_of, is_free_seat, own_of}
 use Rattle.line_model.specs.Line.{LineModel, act, after_e3, after_e4, after_d3, after_d5}
-use Rattle.line_model.specs.Sound.{Chain, Own, UpTo, Read, Seated, Sound}
+use Rattle.line_model.specs.Sound.{Chain, Read, Seated, Sound}
 use Rattle.line_model.proofs.Walk.{by_next, link_same, next_rank, chain_in}
-use Rattle.line_model.proofs.Chains.{never, chain_set_tail, chain_head, rank', chain_link, link_kept, link_own, link_next, Grows, step_sound}
+use Rattle.line_model.proofs.Chains.{never, chain_set_tail, chain_head, rank', chain_link, link_kept, link_own, link_next, step_sound}
 use Rattle.line_model.proofs.Seats.{seat_there}
 
 module _ {E : Type 0} where

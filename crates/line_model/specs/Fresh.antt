@@ -1,5 +1,5 @@
 -- Making a line: what is refused, and the line that is made.
-use Rattle.std.specs.Prelude.{◌≡◌, ℕ, ◌+◌, Bool, cond, ◌&&◌, List, map, take, replicate, None, Ok, Err, Result, nat_le, nat_lt}
+use Rattle.std.specs.Prelude.{ℕ, ◌+◌, cond, ◌&&◌, List, map, take, replicate, None, Ok, Err, Result, nat_le, nat_lt}
 use Rattle.keys.specs.declared.refusal.Refusal.{Refusal}
 use Rattle.keys.specs.declared.refusal.Refusal.TheVariants.{StationCount, LineSize, ShortTable}
 use Rattle.line_model.specs.declared.node.Node.{Node}

@@ -1,16 +1,13 @@
 -- Two heaps whose cells agree on the linked nodes of a kind that the chain does not leave.
-use Rattle.std.proofs.Common.{◌≡◌, ℕ, zero, suc, ◌+◌, ◌<◌, ◌≤◌, Bool, true, false, cond, not, ◌&&◌, ◌||◌, eqb, ◌≢◌, ◌⊎◌, List, [], ◌∷◌, Some, None, Option, sym, refl, ap, ◌∙◌, subst, inl, inr, ⊎_elim, true≢false, arith}
-use mathlib.Core.Bool.{false≢true}
-use Rattle.std.proofs.lemmas.Bool.{cases_eq, eq-eqb, ne_eqb, eqb-true, cases_Bool, or_right, or_left, or_cases}
-use Rattle.keys.specs.Order.{Total}
+use Rattle.std.proofs.Common.{◌≡◌, ℕ, zero, suc, ◌≤◌, Bool, true, cond, not, ◌≢◌, [], sym, refl, ap, ◌∙◌, subst, ⊎_elim, arith}
+use Rattle.std.proofs.lemmas.Bool.{cases_eq, ne_eqb}
 use Rattle.nest_model.specs.declared.cell.Cell.{Cell}
-use Rattle.nest_model.specs.Ends.{Extended, Low, Mid, High, lt, Lt, Le, is_key}
-use Rattle.nest_model.specs.Cells.{back, node, link, gone}
-use Rattle.nest_model.specs.Chain.{after, fold, push, listing, steps_to_back, clean, Reach, Leads}
-use Rattle.nest_model.specs.Live.{Names}
+use Rattle.nest_model.specs.Ends.{Extended, Mid, lt, Lt}
+use Rattle.nest_model.specs.Cells.{node}
+use Rattle.nest_model.specs.Chain.{after, fold, push, listing, steps_to_back, clean, Reach}
 use Rattle.nest_model.specs.Sound.{Chained}
 use Rattle.nest_model.proofs.Orders.{lt_trans, lt_ne}
-use Rattle.nest_model.proofs.Heap.{Heap, In, next, mark}
+use Rattle.nest_model.proofs.Heap.{Heap, In, next}
 
 module _ {K : Type 0} {before : K → K → Bool} (H : Heap before) (c' : ℕ → Cell) where
   module _ (P : ℕ → Type 0) (up : (n : ℕ) → In H n → n ≢ 1 → P n → P (next H n)) (agree : (n : ℕ) → In H n → P n → c' n ≡ H.cell n) where

@@ -1,21 +1,20 @@
 -- Each move keeps what it should, and comes nearer to an answer.
-use Rattle.std.proofs.Common.{◌≡◌, ℕ, zero, suc, ◌+◌, ◌<◌, ◌≤◌, Bool, true, false, cond, not, ◌&&◌, ◌||◌, eqb, ◌≢◌, ◌⊎◌, List, [], ◌∷◌, Some, None, Option, sym, refl, ap, ◌∙◌, subst, inl, inr, ⊎_elim, true≢false, arith}
+use Rattle.std.proofs.Common.{◌≡◌, ℕ, suc, ◌+◌, ◌<◌, ◌≤◌, Bool, true, false, cond, not, eqb, ◌≢◌, List, Some, None, Option, sym, refl, ap, ◌∙◌, subst, true≢false, arith}
 use mathlib.Core.Bool.{false≢true}
-use Rattle.std.proofs.lemmas.Bool.{cases_eq, eq-eqb, ne_eqb, eqb-true, cases_Bool, or_right, or_left, or_cases, or_from, and_parts, and_from, not-true}
-use Rattle.keys.specs.Order.{Total}
-use Rattle.plain_model.specs.Nest.{apply, has, insert, remove}
+use Rattle.std.proofs.lemmas.Bool.{eq-eqb, ne_eqb, eqb-true, or_from, and_parts, and_from}
+use Rattle.plain_model.specs.Nest.{apply}
 use Rattle.plain_model.specs.declared.nest_op.NestOp.{NestOp}
 use Rattle.plain_model.specs.declared.nest_op.NestOp.TheVariants.{Add, Drop, Find}
 use Rattle.plain_model.specs.declared.nest_op.NestAnswer.{NestAnswer}
-use Rattle.plain_model.specs.declared.nest_op.NestAnswer.TheVariants.{Added, There, Dropped, Missing, Yes, No}
+use Rattle.plain_model.specs.declared.nest_op.NestAnswer.TheVariants.{Added, Dropped}
 use Rattle.nest_model.specs.declared.cell.Cell.{Cell}
-use Rattle.nest_model.specs.Ends.{Extended, Low, Mid, High, lt, Lt, Le, is_key}
-use Rattle.nest_model.specs.Cells.{back, node, link, gone, same_node, same_mark, same_cell}
+use Rattle.nest_model.specs.Ends.{Extended, Mid, lt, Lt, Le, is_key}
+use Rattle.nest_model.specs.Cells.{node, link, gone, same_node, same_mark}
 use Rattle.nest_model.specs.Table.{key_of}
-use Rattle.nest_model.specs.Chain.{after, fold, push, listing, steps_to_back, clean, Reach, Leads}
+use Rattle.nest_model.specs.Chain.{after, listing, Reach, Leads}
 use Rattle.nest_model.specs.Live.{Live, Start, Walk, Skip, Unlink, Insert, Strike, Names, still, remaining}
-use Rattle.nest_model.specs.Sound.{Chained, Held, Inserts, Strikes, Stands}
-use Rattle.nest_model.proofs.Orders.{lt_irr, lt_trans, lt_no, lt_le, lt_ne, low_first, high_last, key_is, key_not, not_key_before, key_self}
+use Rattle.nest_model.specs.Sound.{Chained, Held, Stands}
+use Rattle.nest_model.proofs.Orders.{lt_irr, lt_trans, lt_no, low_first, high_last, key_is, key_not, not_key_before, key_self}
 use Rattle.nest_model.proofs.Heap
 use Rattle.nest_model.proofs.Heap.{Heap, In, next, mark, marked_ne, list, far_off, far_next, far_most, leads_in, leads_after, leads_more}
 use Rattle.nest_model.proofs.Sequential

@@ -1,14 +1,12 @@
 -- What the code has in hand where it follows the touch table, turned into the table's own terms.
-use Rattle.std.proofs.Common.{◌≡◌, ℕ, Bool, true, false, cond, ◌⊎◌, List, Option, sym, refl, ap, ◌∙◌, ap₂, inl, inr}
+use Rattle.std.proofs.Common.{◌≡◌, ℕ, Bool, true, false, cond, ◌⊎◌, List, Option, sym, ap, ◌∙◌, ap₂, inl, inr}
 use Rattle.plain_model.specs.declared.nest_op.NestOp.{NestOp}
-use Rattle.plain_model.specs.declared.nest_op.NestAnswer.{NestAnswer}
 use Rattle.nest_model.specs.declared.cell.Cell.{Cell}
 use Rattle.nest_model.specs.declared.node.Node.{Node}
 use Rattle.nest_model.specs.declared.phase.Phase.{Phase}
 use Rattle.nest_model.specs.declared.phase.Phase.TheVariants.{N1, N2}
 use Rattle.nest_model.specs.declared.registers.Registers.{Registers}
 use Rattle.nest_model.specs.declared.step.Step.{Step}
-use Rattle.nest_model.specs.declared.step.Step.TheVariants.{Goes, Says}
 use Rattle.nest_model.specs.Ends.{is_key}
 use Rattle.nest_model.specs.Cells.{node, same_cell, cell_at, key_at, holds, written, exchanged}
 use Rattle.nest_model.specs.Table.{is_place, decided, walked, followed, key_of}

@@ -1,12 +1,10 @@
 -- What holds of one heap: the chain rises to the back, and folds along it have enough fuel.
-use Rattle.std.proofs.Common.{◌≡◌, ℕ, zero, suc, ◌+◌, ◌<◌, ◌≤◌, Bool, true, false, cond, not, ◌&&◌, ◌||◌, eqb, ◌≢◌, ◌⊎◌, List, [], ◌∷◌, sym, refl, ap, ◌∙◌, subst, inl, inr, ⊎_elim, true≢false, arith}
-use mathlib.Core.Bool.{false≢true}
-use Rattle.std.proofs.lemmas.Bool.{cases_eq, eq-eqb, ne_eqb, cases_Bool}
+use Rattle.std.proofs.Common.{◌≡◌, ℕ, zero, suc, ◌+◌, ◌<◌, ◌≤◌, Bool, true, false, cond, ◌≢◌, List, [], sym, refl, ap, ◌∙◌, subst, ⊎_elim, true≢false, arith}
+use Rattle.std.proofs.lemmas.Bool.{cases_eq, ne_eqb}
 use Rattle.keys.specs.Order.{Total}
 use Rattle.nest_model.specs.declared.cell.Cell.{Cell}
-use Rattle.nest_model.specs.Ends.{Extended, Low, Mid, High, lt, Lt, Le, is_key}
-use Rattle.nest_model.specs.Cells.{back, node}
-use Rattle.nest_model.specs.Chain.{after, fold, push, listing, steps_to_back, clean, Reach, Leads}
+use Rattle.nest_model.specs.Ends.{Extended, Low, lt, Lt, Le}
+use Rattle.nest_model.specs.Chain.{after, fold, push, listing, steps_to_back, Reach, Leads}
 use Rattle.nest_model.specs.Sound.{Chained}
 use Rattle.nest_model.proofs.Orders.{lt_irr, lt_trans, lt_no}
 use Rattle.nest_model.proofs.Count.{count, count_lt, count_most}

@@ -1,19 +1,18 @@
 -- What a step of one station leaves to the others, and the bounds of the distance.
-use Rattle.std.proofs.Common.{◌≡◌, ℕ, zero, suc, ◌+◌, ◌*◌, ◌<◌, ◌≤◌, Bool, true, false, cond, not, ◌≢◌, ◌⊎◌, Some, None, Option, sym, refl, ap, ◌∙◌, subst, inl, inr, ⊎_elim, true≢false, arith}
-use mathlib.Core.Bool.{false≢true}
+use Rattle.std.proofs.Common.{◌≡◌, ℕ, ◌+◌, ◌*◌, ◌<◌, ◌≤◌, Bool, true, false, cond, ◌≢◌, Some, sym, refl, ap, ◌∙◌, subst, arith}
 use Rattle.plain_model.specs.declared.nest_op.NestOp.{NestOp}
 use Rattle.plain_model.specs.declared.nest_op.NestOp.TheVariants.{Add, Drop, Find}
 use Rattle.nest_model.specs.declared.cell.Cell.{Cell}
 use Rattle.nest_model.specs.declared.work.Work.{Work}
 use Rattle.nest_model.specs.declared.work.Work.TheVariants.{Free, Waiting, Ready}
-use Rattle.nest_model.specs.Ends.{Extended, Low, Mid, High, lt, Lt, Le}
-use Rattle.nest_model.specs.Cells.{node, link}
+use Rattle.nest_model.specs.Ends.{Extended, Low, Le}
+use Rattle.nest_model.specs.Cells.{node}
 use Rattle.nest_model.specs.Table.{key_of}
-use Rattle.nest_model.specs.Chain.{Reach, Leads}
+use Rattle.nest_model.specs.Chain.{Leads}
 use Rattle.nest_model.specs.Live.{Live, Start, Walk, Skip, Unlink, Insert, Strike, still, remaining}
-use Rattle.nest_model.specs.Sound.{Held, Stands, Owns, Works, own_of}
+use Rattle.nest_model.specs.Sound.{Held, Stands, Works, own_of}
 use Rattle.nest_model.proofs.Orders.{le_lt, low_first}
-use Rattle.nest_model.proofs.Heap.{Heap, In, next, mark, marked_ne, far_off, far_most, leads_in, leads_after}
+use Rattle.nest_model.proofs.Heap.{Heap, In, next, marked_ne, far_off, far_most, leads_in, leads_after}
 use Rattle.nest_model.proofs.Sequential.{tidy}
 use Rattle.nest_model.proofs.Agree.{clean_all, steps_all}
 use Rattle.nest_model.proofs.Fine.{Stepped, held_in}

@@ -1,10 +1,8 @@
 -- A nest that was just made is sound and fresh.
-use Rattle.std.proofs.Common.{◌≡◌, ℕ, zero, suc, ◌+◌, ◌<◌, ◌≤◌, min, Bool, true, false, cond, ◌&&◌, ltb, leb, ◌≢◌, ◌⊎◌, List, [], ◌∷◌, length, get_or, take, set, replicate, Some, None, Ok, Err, Option, Result, sym, refl, ap, ◌∙◌, subst, inl, inr, ⊎_elim, true≢false, arith, length-take}
-use mathlib.Core.Bool.{false≢true}
+use Rattle.std.proofs.Common.{◌≡◌, ℕ, zero, suc, ◌+◌, ◌≤◌, Bool, true, false, cond, ◌&&◌, leb, ◌≢◌, List, [], ◌∷◌, length, get_or, take, set, replicate, Some, None, Err, Option, Result, refl, ap, ◌∙◌, ⊎_elim, arith, length-take}
 use lib.ListN.{length-replicate, get_or-replicate, get_or-eq_default}
 use Rattle.std.proofs.lemmas.Bool.{cases_lt, lt-ltb, leb-true, and_parts}
 use Rattle.boards.specs.Board.{Fresh}
-use Rattle.boards.specs.declared.station.Station.TheVariants as station
 use Rattle.keys.specs.declared.refusal.Refusal.{Refusal}
 use Rattle.keys.specs.declared.refusal.Refusal.TheVariants.{StationCount, NestSize, ShortTable}
 use Rattle.plain_model.specs.declared.nest_op.NestOp.{NestOp}
@@ -13,9 +11,9 @@ use Rattle.nest_model.specs.declared.cell.Cell.{Cell}
 use Rattle.nest_model.specs.declared.node.Node.{Node}
 use Rattle.nest_model.specs.declared.work.Work.{Work}
 use Rattle.nest_model.specs.declared.work.Work.TheVariants.{Free}
-use Rattle.nest_model.specs.Ends.{Extended, Low, Mid, High, lt, Lt}
-use Rattle.nest_model.specs.Cells.{front, back, node, link, cell_at, key_at, written}
-use Rattle.nest_model.specs.Model.{NestModel, work_at, station_of}
+use Rattle.nest_model.specs.Ends.{lt, Lt}
+use Rattle.nest_model.specs.Cells.{front, back, link, cell_at, key_at, written}
+use Rattle.nest_model.specs.Model.{work_at, station_of}
 use Rattle.nest_model.specs.Chain.{after, listing, Reach}
 use Rattle.nest_model.specs.Live.{Names}
 use Rattle.nest_model.specs.Meaning.{means}

@@ -1,9 +1,8 @@
 -- The order of keys between their ends is total.
-use Rattle.std.proofs.Common.{◌≡◌, Bool, true, false, not, ◌&&◌, ◌⊎◌, sym, refl, ap, ◌∙◌, inl, inr, ⊎_elim, true≢false}
+use Rattle.std.proofs.Common.{◌≡◌, Bool, true, false, not, sym, refl, ap, ◌∙◌, ⊎_elim, true≢false}
 use mathlib.Core.Bool.{false≢true}
 use Rattle.std.proofs.lemmas.Bool.{cases_Bool, and_parts, not-true}
 use Rattle.keys.specs.Order.{Total, ExactlyOne, the_first, the_second, the_third}
-use Rattle.plain_model.specs.Nest.{same}
 use Rattle.nest_model.specs.Ends.{Extended, Low, Mid, High, lt, Lt, Le, is_after, is_key}
 
 -- what exactly one of three statements gives for tests of keys

@@ -1,5 +1,5 @@
 -- The node table and the station table, by place.
-use Rattle.std.proofs.Common.{◌≡◌, ℕ, zero, suc, ◌+◌, ◌<◌, ◌≤◌, Bool, true, false, ◌&&◌, leb, ◌≢◌, ◌⊎◌, List, [], ◌∷◌, length, get_or, set, Some, None, Option, sym, refl, ap, ◌∙◌, subst, inl, inr, ⊎_elim, true≢false, arith, length-set, get_or-set_other, get_or-set_same}
+use Rattle.std.proofs.Common.{◌≡◌, ℕ, zero, suc, ◌+◌, ◌<◌, ◌≤◌, true, false, ◌&&◌, leb, ◌≢◌, List, [], ◌∷◌, length, set, Some, None, Option, sym, refl, ap, ◌∙◌, ⊎_elim, true≢false, arith, length-set, get_or-set_other, get_or-set_same}
 use lib.ListN.{get_or-eq_default}
 use Rattle.std.specs.List.{slice_get}
 use Rattle.std.proofs.lemmas.Option.{slice_get_past}
@@ -8,7 +8,7 @@ use Rattle.nest_model.specs.declared.cell.Cell.{Cell}
 use Rattle.nest_model.specs.declared.node.Node.{Node}
 use Rattle.nest_model.specs.declared.work.Work.{Work}
 use Rattle.nest_model.specs.declared.work.Work.TheVariants.{Free}
-use Rattle.nest_model.specs.Ends.{Extended, Low, Mid, High}
+use Rattle.nest_model.specs.Ends.{Mid}
 use Rattle.nest_model.specs.Cells.{cell_in, key_in, cell_at, key_at, written_to, written}
 use Rattle.nest_model.specs.Model.{work_at, put_at}
 

@@ -1,15 +1,11 @@
 -- How the operations of the plain nest pass the keys of a heap, and when the node before a key's place is unmarked.
-use Rattle.std.proofs.Common.{◌≡◌, ℕ, zero, suc, ◌+◌, ◌<◌, ◌≤◌, Bool, true, false, cond, not, ◌&&◌, ◌||◌, eqb, ◌≢◌, ◌⊎◌, List, [], ◌∷◌, sym, refl, ap, ◌∙◌, subst, inl, inr, ⊎_elim, true≢false, arith}
-use mathlib.Core.Bool.{false≢true}
-use Rattle.std.proofs.lemmas.Bool.{cases_eq, eq-eqb, ne_eqb, cases_Bool}
+use Rattle.std.proofs.Common.{◌≡◌, ℕ, ◌+◌, Bool, true, false, cond, not, ◌||◌, ◌≢◌, List, ◌∷◌, sym, refl, ap, ◌∙◌, ⊎_elim, true≢false}
+use Rattle.std.proofs.lemmas.Bool.{cases_Bool}
 use Rattle.keys.specs.Order.{Total}
-use Rattle.nest_model.specs.declared.cell.Cell.{Cell}
 use Rattle.nest_model.specs.Ends.{Extended, Low, Mid, High, lt, Lt, Le, is_key}
-use Rattle.nest_model.specs.Cells.{back, node}
-use Rattle.nest_model.specs.Chain.{after, fold, push, listing, steps_to_back, clean, Reach, Leads}
-use Rattle.nest_model.specs.Sound.{Chained}
+use Rattle.nest_model.specs.Chain.{push, clean, Reach}
 use Rattle.plain_model.specs.Nest.{has, insert, remove}
-use Rattle.nest_model.proofs.Orders.{lt_irr, lt_trans, lt_no, lt_le, not_key_before, not_key_after}
+use Rattle.nest_model.proofs.Orders.{lt_trans, lt_no, lt_le, not_key_before, not_key_after}
 use Rattle.nest_model.proofs.Heap.{Heap, In, next, mark, along, fold_next, list, list_marked, list_plain, list_back, before_end, reach_le}
 
 -- how the sequential operations pass a key

@@ -1,37 +1,19 @@
 -- A station's new work in a heap after a step keeps a nest sound.
-use Rattle.std.proofs.Common.{◌≡◌, ℕ, zero, suc, ◌+◌, ◌*◌, ◌<◌, ◌≤◌, Bool, true, false, cond, not, ◌&&◌, ◌≢◌, ◌⊎◌, List, length, set, Some, None, Option, sym, refl, ap, ◌∙◌, subst, inl, inr, ⊎_elim, true≢false, arith, length-set}
-use mathlib.Core.Bool.{false≢true}
-use Rattle.std.proofs.lemmas.Bool.{cases_eq, cases_Bool, and_parts, ltb-true}
+use Rattle.std.proofs.Common.{◌≡◌, ℕ, ◌+◌, ◌≤◌, Bool, ◌≢◌, length, Some, None, Option, sym, refl, ap, ◌∙◌, ⊎_elim, true≢false, arith}
+use Rattle.std.proofs.lemmas.Bool.{cases_eq}
 use Rattle.keys.specs.Order.{Total}
-use Rattle.plain_model.specs.Nest.{nest}
 use Rattle.plain_model.specs.declared.nest_op.NestOp.{NestOp}
 use Rattle.plain_model.specs.declared.nest_op.NestOp.TheVariants.{Add, Drop, Find}
-use Rattle.plain_model.specs.declared.nest_op.NestAnswer.{NestAnswer}
-use Rattle.boards.specs.Board.{is_free, is_waiting}
-use Rattle.boards.specs.Laws.{KeepsOthers, Touched, goes_uncounted, counts_ready}
-use Rattle.boards.specs.declared.outcome.Outcome.TheVariants as told
-use Rattle.boards.specs.declared.station.Station.TheVariants as station
-use Rattle.nest_model.specs.declared.cell.Cell.{Cell}
-use Rattle.nest_model.specs.declared.node.Node.{Node}
 use Rattle.nest_model.specs.declared.phase.Phase.{Phase}
-use Rattle.nest_model.specs.declared.phase.Phase.TheVariants.{N1, N2, N3, N4, N5, N6}
 use Rattle.nest_model.specs.declared.registers.Registers.{Registers}
-use Rattle.nest_model.specs.declared.step.Step.{Step}
-use Rattle.nest_model.specs.declared.step.Step.TheVariants.{Goes, Says}
 use Rattle.nest_model.specs.declared.work.Work.{Work}
-use Rattle.nest_model.specs.declared.work.Work.TheVariants.{Free, Waiting, Ready}
-use Rattle.nest_model.specs.Ends.{Extended, Mid}
-use Rattle.nest_model.specs.Cells.{node, link, cell_at, key_at, written}
-use Rattle.nest_model.specs.Table.{key_of, unset, readings, touched}
-use Rattle.nest_model.specs.Model.{NestModel, work_at, put_at, with, station_of, space, may_begin, enter, stepped, tells, settled, leave, act}
-use Rattle.nest_model.specs.Chain.{listing}
-use Rattle.nest_model.specs.Live.{live, AllSet, remaining}
-use Rattle.nest_model.specs.Meaning.{contents, work_distance, means}
-use Rattle.nest_model.specs.Sound.{Stands, Owns, Works, own_of, Sound}
-use Rattle.nest_model.proofs.Heap.{Heap, In}
-use Rattle.nest_model.proofs.Agree.{all_chained, list_all}
-use Rattle.nest_model.proofs.Kept.{owns_out, works_kept, remaining_kept, remaining_least, remaining_most}
-use Rattle.nest_model.proofs.Places.{Here, here_by, here_work, put_same, put_other, put_length, cell_written, cell_other, key_written, length_written, cell_old, key_old, key_new}
+use Rattle.nest_model.specs.declared.work.Work.TheVariants.{Waiting}
+use Rattle.nest_model.specs.Cells.{node, cell_at, key_at}
+use Rattle.nest_model.specs.Model.{NestModel, work_at, put_at}
+use Rattle.nest_model.specs.Sound.{Owns, Works, own_of, Sound}
+use Rattle.nest_model.proofs.Heap.{Heap}
+use Rattle.nest_model.proofs.Kept.{owns_out, works_kept}
+use Rattle.nest_model.proofs.Places.{Here, put_same, put_other, put_length}
 use Rattle.nest_model.proofs.Fine.{Stepped}
 
 module _ {K : Type 0} {before : K → K → Bool} (total : Total before) where

@@ -1,13 +1,12 @@
 -- The laws of a touch.
-use Rattle.std.proofs.Common.{◌≡◌, ℕ, zero, suc, ◌+◌, ◌*◌, ◌<◌, ◌≤◌, Bool, true, false, cond, not, ◌&&◌, ◌≢◌, ◌⊎◌, List, length, set, Some, None, Option, sym, refl, ap, ◌∙◌, subst, inl, inr, ⊎_elim, true≢false, arith, length-set}
+use Rattle.std.proofs.Common.{◌≡◌, ℕ, ◌+◌, ◌*◌, ◌<◌, ◌≤◌, Bool, true, false, ◌≢◌, List, length, Some, None, Option, sym, refl, ap, ◌∙◌, subst, true≢false, arith}
 use mathlib.Core.Bool.{false≢true}
-use Rattle.std.proofs.lemmas.Bool.{cases_eq, cases_Bool, and_parts, ltb-true}
 use Rattle.keys.specs.Order.{Total}
 use Rattle.plain_model.specs.Nest.{nest}
 use Rattle.plain_model.specs.declared.nest_op.NestOp.{NestOp}
 use Rattle.plain_model.specs.declared.nest_op.NestOp.TheVariants.{Add, Drop, Find}
 use Rattle.plain_model.specs.declared.nest_op.NestAnswer.{NestAnswer}
-use Rattle.boards.specs.Board.{is_free, is_waiting}
+use Rattle.boards.specs.Board.{is_waiting}
 use Rattle.boards.specs.Laws.{KeepsOthers, Touched, goes_uncounted, counts_ready}
 use Rattle.boards.specs.declared.outcome.Outcome.TheVariants as told
 use Rattle.boards.specs.declared.station.Station.TheVariants as station
@@ -17,24 +16,21 @@ use Rattle.nest_model.specs.declared.phase.Phase.{Phase}
 use Rattle.nest_model.specs.declared.phase.Phase.TheVariants.{N1, N2, N3, N4, N5, N6}
 use Rattle.nest_model.specs.declared.registers.Registers.{Registers}
 use Rattle.nest_model.specs.declared.step.Step.{Step}
-use Rattle.nest_model.specs.declared.step.Step.TheVariants.{Goes, Says}
 use Rattle.nest_model.specs.declared.work.Work.{Work}
 use Rattle.nest_model.specs.declared.work.Work.TheVariants.{Free, Waiting, Ready}
-use Rattle.nest_model.specs.Ends.{Extended, Mid}
-use Rattle.nest_model.specs.Cells.{node, link, cell_at, key_at, written}
-use Rattle.nest_model.specs.Table.{key_of, unset, readings, touched}
-use Rattle.nest_model.specs.Model.{NestModel, work_at, put_at, with, station_of, space, may_begin, enter, stepped, tells, settled, leave, act}
+use Rattle.nest_model.specs.Ends.{Extended}
+use Rattle.nest_model.specs.Cells.{node, cell_at, key_at, written}
+use Rattle.nest_model.specs.Table.{key_of, readings, touched}
+use Rattle.nest_model.specs.Model.{NestModel, work_at, with, station_of, stepped, tells, act}
 use Rattle.nest_model.specs.Chain.{listing}
-use Rattle.nest_model.specs.Live.{Live, live, AllSet, remaining}
+use Rattle.nest_model.specs.Live.{Live, live, remaining}
 use Rattle.nest_model.specs.Meaning.{contents, work_distance, means}
 use Rattle.nest_model.specs.Sound.{Chained, Stands, Owns, Works, own_of, Sound}
-use Rattle.nest_model.proofs.Heap.{Heap, In}
-use Rattle.nest_model.proofs.Agree.{all_chained, list_all}
-use Rattle.nest_model.proofs.Kept.{owns_out, works_kept, remaining_kept, remaining_least, remaining_most}
-use Rattle.nest_model.proofs.Places.{Here, here_by, here_work, put_same, put_other, put_length, cell_written, cell_other, key_written, length_written, cell_old, key_old, key_new}
+use Rattle.nest_model.proofs.Kept.{remaining_least, remaining_most}
+use Rattle.nest_model.proofs.Places.{Here, here_work, put_same, put_other, put_length, cell_written, cell_other, key_written, length_written}
 use Rattle.nest_model.proofs.Fine.{Stepped, Owned, Fine, Wrote, Did, fine, held_in, le_not_back}
 use Rattle.nest_model.proofs.Heap.{marked_ne}
-use Rattle.nest_model.proofs.Move.{Move, goes, writes, says, does, move}
+use Rattle.nest_model.proofs.Move.{Move, writes, does, move}
 use Rattle.nest_model.proofs.View.{Carries, to_go, to_write, to_say, to_do, OwnSet, OwnAt, Onward, carried}
 use Rattle.nest_model.proofs.Stations.{heap_of, stay, sound_put, waiting_own, none_own, own_apart}
 

@@ -1,15 +1,13 @@
 -- What a write to one linked node makes of a heap: N4 takes nodes out of the chain, N6 marks one, N5 links one.
-use Rattle.std.proofs.Common.{◌≡◌, ℕ, zero, suc, ◌+◌, ◌<◌, ◌≤◌, Bool, true, false, cond, not, ◌&&◌, ◌||◌, eqb, ◌≢◌, ◌⊎◌, List, [], ◌∷◌, Some, None, Option, sym, refl, ap, ◌∙◌, subst, inl, inr, ⊎_elim, true≢false, arith}
-use mathlib.Core.Bool.{false≢true}
-use Rattle.std.proofs.lemmas.Bool.{cases_eq, eq-eqb, ne_eqb, eqb-true, cases_Bool, or_right, or_left, or_cases}
-use Rattle.keys.specs.Order.{Total}
+use Rattle.std.proofs.Common.{◌≡◌, ℕ, ◌+◌, ◌<◌, Bool, true, false, ◌||◌, eqb, ◌≢◌, List, ◌∷◌, Some, sym, refl, ap, ◌∙◌, subst, ⊎_elim, true≢false, arith}
+use Rattle.std.proofs.lemmas.Bool.{cases_eq, eq-eqb, eqb-true, cases_Bool, or_right, or_left, or_cases}
 use Rattle.nest_model.specs.declared.cell.Cell.{Cell}
-use Rattle.nest_model.specs.Ends.{Extended, Low, Mid, High, lt, Lt, Le, is_key}
-use Rattle.nest_model.specs.Cells.{back, node, link, gone}
-use Rattle.nest_model.specs.Chain.{after, fold, push, listing, steps_to_back, clean, Reach, Leads}
+use Rattle.nest_model.specs.Ends.{Extended, Low, Mid, Lt, Le}
+use Rattle.nest_model.specs.Cells.{node, link, gone}
+use Rattle.nest_model.specs.Chain.{after, push, Reach, Leads}
 use Rattle.nest_model.specs.Live.{Names}
 use Rattle.nest_model.specs.Sound.{Chained}
-use Rattle.plain_model.specs.Nest.{has, insert, remove}
+use Rattle.plain_model.specs.Nest.{insert, remove}
 use Rattle.nest_model.proofs.Orders.{lt_irr, lt_trans, lt_no, lt_le, lt_ne, key_self}
 use Rattle.nest_model.proofs.Heap
 use Rattle.nest_model.proofs.Heap.{Heap, In, next, mark, list, list_marked, list_plain, list_leads, before_end}

@@ -1,5 +1,5 @@
 -- How the node table is read and written.
-use Rattle.std.specs.Prelude.{ℕ, zero, suc, Bool, true, false, cond, not, ◌&&◌, List, set, Some, None, Option, ◌==◌, slice_set}
+use Rattle.std.specs.Prelude.{ℕ, zero, suc, Bool, true, false, cond, not, ◌&&◌, List, Some, None, Option, ◌==◌, slice_set}
 use Rattle.std.specs.List.{slice_get}
 use Rattle.nest_model.specs.declared.cell.Cell.{Cell}
 use Rattle.nest_model.specs.declared.node.Node.{Node}

@@ -1,5 +1,5 @@
 -- The registers that the touches to come still read, and how far a station is from its answer.
-use Rattle.std.specs.Prelude.{◌≡◌, ℕ, ◌+◌, Bool, cond, Some, None, Option}
+use Rattle.std.specs.Prelude.{◌≡◌, ℕ, ◌+◌, Bool, cond, Some, Option}
 use Rattle.nest_model.specs.declared.cell.Cell.{Cell}
 use Rattle.nest_model.specs.declared.phase.Phase.{Phase}
 use Rattle.nest_model.specs.declared.phase.Phase.TheVariants.{N1, N2, N3, N4, N5, N6}

@@ -9,7 +9,7 @@ use Rattle.plain_model.specs.declared.side.Side.TheVariants.{First, Second}
 use Rattle.boards.specs.Board.{Steps, Meaning, Fresh, is_free, exists}
 use Rattle.boards.specs.Laws.{Laws}
 use Rattle.boards.specs.declared.station.Station.TheVariants.{Free}
-use Rattle.pair_model.specs.Pair.{second, either, space, pair_means, Sound, free_to, all_free, checked}
+use Rattle.pair_model.specs.Pair.{second, space, pair_means, Sound, free_to, all_free, checked}
 use Rattle.pair_model.proofs.PairStations.{never, free_is, either_second}
 
 -- one station of those that are free is free

@@ -90,8 +90,8 @@ pub fn run_floor<T: Trade>(
     out: &mut String,
 ) -> Result<Ending, Stop>
     requires { length script.now ≤ 32768 }
-    ensures ran { PartRan result (begun (rules Key-as-Key.before Key-as-Text.bytes Element-as-Text.bytes T.Trade.key_at T.Trade.element_at T.Trade.blank_key T.Trade.blank_element) opening script.now) (string_bytes out.old) (string_bytes out.new) }
-    ensures day { UnlessMemory result (shop_refusal opening.stations opening.limit opening.nodes opening.line_nodes ≡ None → Day (rules Key-as-Key.before Key-as-Text.bytes Element-as-Text.bytes T.Trade.key_at T.Trade.element_at T.Trade.blank_key T.Trade.blank_element) opening (begun (rules Key-as-Key.before Key-as-Text.bytes Element-as-Text.bytes T.Trade.key_at T.Trade.element_at T.Trade.blank_key T.Trade.blank_element) opening script.now)) }
+    ensures ran { PartRan result (begun (rules T.Key.before T.Key.bytes T.Element.bytes T.Trade.key_at T.Trade.element_at T.Trade.blank_key T.Trade.blank_element) opening script.now) (string_bytes out.old) (string_bytes out.new) }
+    ensures day { UnlessMemory result (shop_refusal opening.stations opening.limit opening.nodes opening.line_nodes ≡ None → Day (rules T.Key.before T.Key.bytes T.Element.bytes T.Trade.key_at T.Trade.element_at T.Trade.blank_key T.Trade.blank_element) opening (begun (rules T.Key.before T.Key.bytes T.Element.bytes T.Trade.key_at T.Trade.element_at T.Trade.blank_key T.Trade.blank_element) opening script.now)) }
 {
     if let Err(reason) = check_sizes(
         opening.stations,

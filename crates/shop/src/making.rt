@@ -33,8 +33,8 @@ pub fn make_nest<K: Key>(
 ) -> Result<Nest<K>, Refusal>
     requires { (1 ≤ stations) × (stations ≤ 16) × (1 ≤ nodes) × (nodes ≤ 512) }
     ensures is { IfOk result (λ n. nest_model n ≡ nest_made stations nodes (replicate (nodes + 2) (nest_node key))) }
-    ensures sound { IfOk result (λ n. NestSound before (nest_model n)) }
-    ensures fresh { IfOk result (λ n. Fresh (nest_means before) [] (nest_model n)) }
+    ensures sound { IfOk result (λ n. NestSound K.before (nest_model n)) }
+    ensures fresh { IfOk result (λ n. Fresh (nest_means K.before) [] (nest_model n)) }
     ensures lacking { IfErr result (λ e. e ≡ NoMemory) }
 {
     let blank = NestNode {

@@ -76,7 +76,7 @@ fn make_shop<K: Key, E: Copy>(
     requires nest { (1 ≤ nest_nodes) × (nest_nodes ≤ 512) }
     requires line { (1 ≤ line_nodes) × (line_nodes ≤ 512) }
     ensures lacking { IfErr result (λ reason. reason ≡ NoMemory) }
-    ensures opened { IfOk result (λ s. ShopOpened before stations limit nest_nodes line_nodes key element (floor_of shop_model s.0) s.1.items) }
+    ensures opened { IfOk result (λ s. ShopOpened K.before stations limit nest_nodes line_nodes key element (floor_of shop_model s.0) s.1.items) }
 {
     let nest = make_nest(heap, stations, nest_nodes, key)?;
     let line = make_line(heap, stations, line_nodes, element)?;
@@ -96,7 +96,7 @@ pub fn open_shop<K: Key, E: Copy>(
     element: E,
 ) -> Result<(OpenFloor<ShopBoard<K, E>>, Vec<ShopLine<K, E>>), Refusal>
     ensures sizes { MatchResult result (λ _. shop_refusal stations limit nest_nodes line_nodes ≡ None) (λ reason. reason ≡ or_memory (shop_refusal stations limit nest_nodes line_nodes)) }
-    ensures opened { IfOk result (λ s. ShopOpened before stations limit nest_nodes line_nodes key element (floor_of shop_model s.0) s.1.items) }
+    ensures opened { IfOk result (λ s. ShopOpened K.before stations limit nest_nodes line_nodes key element (floor_of shop_model s.0) s.1.items) }
 {
     check_sizes(stations, limit, nest_nodes, line_nodes)?;
     let shop = make_shop(heap, stations, limit, nest_nodes, line_nodes, key, element)?;

@@ -1,9 +1,9 @@
 -- Every printed key, element and operation reads back to itself.
-use Rattle.std.proofs.Common.{◌≡◌, ℕ, ◌+◌, ◌<◌, true, false, List, [], ◌∷◌, ◌++◌, length, Some, Ok, codes, decimal, Option, Result, sym, refl, ap, ◌∙◌, append_assoc, append-nil, arith}
+use Rattle.std.proofs.Common.{◌≡◌, ℕ, ◌+◌, ◌<◌, true, List, [], ◌∷◌, ◌++◌, length, Some, Ok, codes, decimal, Option, Result, sym, refl, ap, ◌∙◌, append_assoc, append-nil, arith}
 use Rattle.std.specs.Char.{is_ascii_alphabetic, is_ascii_uppercase}
 use Rattle.std.proofs.lemmas.Bool.Decides.{nat_tests}
 use Rattle.lex.specs.Runs.{Lexeme, opening, closing, word, number}
-use Rattle.lex.specs.Tokens.{placed, lexed, before, tokens_of}
+use Rattle.lex.specs.Tokens.{placed, tokens_of}
 use Rattle.keys.specs.Elements.{cut_ticket, ticket_text, plot_order, order_text}
 use Rattle.keys.specs.Pieces.{piece_code, piece_text}
 use Rattle.keys.specs.Ranges.{wearable, catalogued, spreadable, plottable}

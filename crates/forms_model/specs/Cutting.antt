@@ -1,5 +1,5 @@
 -- How a size label and a cut ticket are read.
-use Rattle.std.specs.Prelude.{ℕ, cond, List, Some, None, Ok, Err, codes, Option, Result, refl}
+use Rattle.std.specs.Prelude.{ℕ, cond, List, Some, None, Ok, codes, Option, Result, refl}
 use Rattle.std.specs.Str.{bytes_eq}
 use Rattle.lex.specs.Runs.{Lexeme}
 use Rattle.keys.specs.Elements.{cut_ticket}

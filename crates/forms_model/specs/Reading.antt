@@ -3,7 +3,6 @@ use Rattle.std.specs.Prelude.{◌≡◌, ℕ, cond, List, [], ◌∷◌, Some, N
 use Rattle.std.specs.Str.{bytes_eq}
 use Rattle.lex.specs.Runs.{Lexeme, opening, closing, word, number}
 use Rattle.lex.specs.Faults.{no_form}
-use Rattle.lex.specs.Tokens.{tokens_of}
 use Rattle.lex.specs.declared.fault.Fault.{Fault}
 use Rattle.lex.specs.declared.fault.Stop.{Stop}
 use Rattle.lex.specs.declared.fault.Stop.TheVariants.{Faulty, NoMemory}

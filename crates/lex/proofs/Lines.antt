@@ -1,5 +1,5 @@
 -- How bytes are cut into lines: the first line, and the lines of what follows it.
-use Rattle.std.proofs.Common.{◌≡◌, ℕ, suc, ◌+◌, ◌-◌, ◌<◌, ◌≤◌, Bool, true, false, cond, List, [], ◌∷◌, length, take, drop, sym, refl, ap, ◌∙◌, subst, one-add, arith, length-drop}
+use Rattle.std.proofs.Common.{◌≡◌, ℕ, ◌+◌, ◌-◌, ◌<◌, ◌≤◌, Bool, true, false, cond, List, [], ◌∷◌, length, take, drop, sym, refl, ap, ◌∙◌, subst, one-add, arith, length-drop}
 use Rattle.std.specs.List.{prefix_len}
 use Rattle.lex.specs.Lines.{in_line, onto, lines_of, first_of, after_first}
 

@@ -1,5 +1,5 @@
 -- What a read of a table by place gives.
-use Rattle.std.proofs.Common.{◌≡◌, ℕ, zero, suc, ◌-◌, ◌<◌, ◌≤◌, min, List, length, get_or, Some, None, Option, sym, refl, ap, ◌∙◌, arith, Bor}
+use Rattle.std.proofs.Common.{◌≡◌, ℕ, zero, suc, ◌-◌, ◌<◌, ◌≤◌, min, List, length, get_or, Some, None, Option, sym, refl, ◌∙◌, arith, Bor}
 use native.Mathlib.Nat.{min-eq_left}
 use lib.ListN.{get_or-eq_default}
 use lib.Seq.{set_out}

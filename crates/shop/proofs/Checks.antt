@@ -1,5 +1,5 @@
 -- Numbers in range and tables of the lengths that are needed pass the checks of a nest and of a line.
-use Rattle.std.proofs.Common.{◌≡◌, ℕ, ◌+◌, ◌≤◌, Some, None, Ok, Err, Option, Result, refl, arith}
+use Rattle.std.proofs.Common.{◌≡◌, ℕ, ◌+◌, ◌≤◌, Some, None, Ok, Err, Option, refl, arith}
 use Rattle.std.proofs.lemmas.Bool.Decides.{nat_tests}
 use Rattle.keys.specs.declared.refusal.Refusal.{Refusal}
 use Rattle.floor_model.specs.Floor.{checked as checked_of}

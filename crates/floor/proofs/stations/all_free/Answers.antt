@@ -1,4 +1,4 @@
-use Rattle.std.proofs.Common.{◌≡◌, ◌+◌, ◌-◌, true, sym, ap, ◌∙◌, arith}
+use Rattle.std.proofs.Common.{◌≡◌, ◌+◌, ◌-◌, sym, ap, ◌∙◌, arith}
 use Rattle.boards.specs.Board.{is_free}
 use Rattle.floor_model.specs.Floor.{free_to}
 use Rattle.floor_model.proofs.Calls.{not_free, free_next, free_fails}

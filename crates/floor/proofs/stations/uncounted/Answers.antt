@@ -1,4 +1,4 @@
-use Rattle.std.proofs.Common.{◌≡◌, ◌+◌, ◌-◌, ◌≤◌, true, false, sym, ap, ◌∙◌, arith}
+use Rattle.std.proofs.Common.{◌≡◌, ◌+◌, ◌-◌, true, false, sym, ap, ◌∙◌, arith}
 use Rattle.floor_model.specs.Floor.{is_uncounted, uncounted_to}
 use Rattle.floor_model.proofs.Calls.{not_uncounted, uncounted_next}
 use Rattle.floor.proofs.stations.uncounted.Goals as goal

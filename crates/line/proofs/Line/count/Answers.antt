@@ -1,5 +1,5 @@
 -- Each node adds one to the count, and none is left at the end.
-use Rattle.std.proofs.Common.{◌≡◌, ◌-◌, ◌<◌, List, length, vec_items, sym, ap, arith}
+use Rattle.std.proofs.Common.{◌-◌, ◌<◌, length, vec_items, sym, ap, arith}
 use Rattle.std.proofs.lemmas.Bool.{ltb-true}
 use Rattle.line_model.specs.Nodes.{next_of}
 use Rattle.line_model.proofs.Walk.{element_there, after_none}

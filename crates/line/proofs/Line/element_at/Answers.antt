@@ -1,5 +1,5 @@
 -- The element at hand is the one asked for, or the place is one nearer.
-use Rattle.std.proofs.Common.{◌≡◌, ◌-◌, ◌<◌, length, vec_items, sym, ap, ◌∙◌, arith}
+use Rattle.std.proofs.Common.{◌-◌, ◌<◌, length, vec_items, sym, ap, ◌∙◌, arith}
 use Rattle.std.specs.List.{slice_get}
 use Rattle.std.proofs.lemmas.Bool.{ltb-true}
 use Rattle.line_model.specs.Nodes.{next_of}

@@ -10,7 +10,7 @@ use Rattle.line_model.specs.Nodes.{next_of}
 use Rattle.line_model.specs.Within.{in_next, in_seat, seat_at}
 use Rattle.line_model.specs.Line.{LineModel}
 use Rattle.line_model.specs.Meaning.{means}
-use Rattle.line_model.specs.Fresh.{front, fresh, unlinked}
+use Rattle.line_model.specs.Fresh.{front, unlinked}
 use Rattle.line_model.specs.Sound.{Sound}
 use Rattle.line_model.proofs.Fresh.{Sizes, sizes, fresh_length, fresh_next, fresh_sound, fresh_fresh, all_same}
 use Rattle.line.proofs.Line.over.Goals as goal

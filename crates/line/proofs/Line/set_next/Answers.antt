@@ -1,5 +1,5 @@
 -- The cell is written within the node table, and holds what the compare-and-set leaves.
-use Rattle.std.proofs.Common.{◌≡◌, ℕ, Bool, true, not, length, set, vec_items, Option, sym, refl, ap, ◌∙◌, subst, arith, length-set}
+use Rattle.std.proofs.Common.{◌≡◌, ℕ, true, not, length, set, vec_items, Option, sym, refl, ap, ◌∙◌, subst, arith, length-set}
 use Rattle.std.proofs.lemmas.Option.{slice_get_read}
 use Rattle.std.proofs.lemmas.Bool.{lt-ltb}
 use Rattle.line_model.specs.declared.node.Node.{Node}

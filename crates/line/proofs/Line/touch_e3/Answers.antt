@@ -1,5 +1,5 @@
 -- The seat after E3, by what was read and by whether Tail moved.
-use Rattle.std.proofs.Common.{◌≡◌, true, false, Some, None, refl}
+use Rattle.std.proofs.Common.{true, false, Some, None, refl}
 use Rattle.std.proofs.lemmas.Bool.{eq-eqb, ne_eqb}
 use Rattle.line_model.proofs.Acts.{e3_by}
 use Rattle.line.specs.View.{model_of}

@@ -1,10 +1,9 @@
 -- Each node writes its element, and nothing is left at the end.
-use Rattle.std.proofs.Common.{◌≡◌, ℕ, ◌+◌, ◌-◌, ◌<◌, ◌≤◌, List, [], ◌∷◌, ◌++◌, length, take, drop, set, vec_items, sym, ap, ◌∙◌, arith, length-set}
+use Rattle.std.proofs.Common.{◌≡◌, ℕ, ◌+◌, ◌<◌, ◌≤◌, List, [], ◌∷◌, ◌++◌, length, take, drop, set, vec_items, sym, ap, ◌∙◌, arith, length-set}
 use Rattle.std.proofs.lemmas.Bool.{ltb-true}
 use Rattle.boards.specs.Board.{over}
-use Rattle.line_model.specs.Meaning.{after}
 use Rattle.line_model.specs.Nodes.{next_of}
-use Rattle.line_model.proofs.Walk.{element_there, after_none}
+use Rattle.line_model.proofs.Walk.{after_none}
 use Rattle.line_model.proofs.Listing.{rest_next, rest_out, over_next, over_end}
 use Rattle.line.proofs.Line.write_to.Goals as goal
 

@@ -1,5 +1,5 @@
 -- One node more has its next cell none.
-use Rattle.std.proofs.Common.{◌≡◌, ℕ, ◌+◌, ◌<◌, List, ◌∷◌, ◌++◌, map, length, get_or, take, drop, set, None, vec_items, vec_len, sym, refl, ap, ◌∙◌, arith}
+use Rattle.std.proofs.Common.{None, vec_items, sym, ap, ◌∙◌, arith}
 use Rattle.line_model.specs.Nodes.{toward}
 use Rattle.line_model.proofs.Listing.{mapped_next, mapped_end}
 use Rattle.line_model.specs.Fresh.{unlinked}

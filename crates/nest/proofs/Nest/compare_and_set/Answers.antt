@@ -1,5 +1,5 @@
 -- Whether the cell was as it should be, and the table afterwards.
-use Rattle.std.proofs.Common.{◌≡◌, true, false}
+use Rattle.std.proofs.Common.{true, false}
 use Rattle.nest_model.proofs.Follows.{held_at, set_where, kept_where}
 use Rattle.nest.specs.View.{model_of}
 use Rattle.nest.proofs.Nest.compare_and_set.Goals as goal

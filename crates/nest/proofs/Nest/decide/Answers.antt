@@ -1,5 +1,5 @@
 -- What is decided follows from the operation and from whether the key was found.
-use Rattle.std.proofs.Common.{◌≡◌, true, false, refl}
+use Rattle.std.proofs.Common.{true, false, refl}
 use Rattle.plain_model.specs.declared.nest_op.NestOp.TheVariants.{Add, Drop, Find}
 use Rattle.nest_model.specs.Cells.{node, link, key_at}
 use Rattle.nest_model.specs.Ends.{is_key}

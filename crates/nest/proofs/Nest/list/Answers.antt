@@ -1,4 +1,4 @@
-use Rattle.std.proofs.Common.{◌≡◌, ℕ, ◌+◌, ◌-◌, ◌<◌, ◌≤◌, List, [], ◌∷◌, ◌++◌, length, take, drop, set, Some, vec_items, Option, sym, ap, ◌∙◌, subst, arith, rules}
+use Rattle.std.proofs.Common.{◌≡◌, ℕ, ◌+◌, ◌-◌, ◌<◌, List, ◌∷◌, ◌++◌, length, take, drop, set, vec_items, Option, sym, ap, ◌∙◌, arith, rules}
 use Rattle.nest_model.specs.Cells.{cell_at, key_at}
 use Rattle.nest_model.specs.Chain.{after, listing, enlist}
 use Rattle.nest_model.specs.Meaning.{contents}

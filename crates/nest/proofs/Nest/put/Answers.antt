@@ -1,4 +1,4 @@
-use Rattle.std.proofs.Common.{List, vec_items, sym, ap, arith}
+use Rattle.std.proofs.Common.{vec_items, sym, ap, arith}
 use Rattle.nest_model.specs.Model.{works_of}
 use Rattle.nest.specs.View.{model_of}
 use Rattle.nest.proofs.Reading.{put_past, put_zero}

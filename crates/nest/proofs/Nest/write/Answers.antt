@@ -1,4 +1,4 @@
-use Rattle.std.proofs.Common.{◌≡◌, ◌<◌, ◌≤◌, length, Some, vec_items, sym, refl, ap, arith, rules}
+use Rattle.std.proofs.Common.{◌≡◌, length, Some, vec_items, sym, refl, ap, arith, rules}
 use Rattle.std.specs.List.{slice_get}
 use Rattle.std.proofs.lemmas.Option.{slice_get_read}
 use Rattle.nest_model.specs.Model.{nodes_of}

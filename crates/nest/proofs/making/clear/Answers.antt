@@ -1,4 +1,4 @@
-use Rattle.std.proofs.Common.{◌≡◌, length, replicate, vec_items, vec_len, sym, ◌∙◌, arith, ext_get_or}
+use Rattle.std.proofs.Common.{replicate, vec_items, vec_len, sym, ◌∙◌, arith, ext_get_or}
 use lib.ListN.{length-replicate, get_or-replicate}
 use Rattle.nest_model.specs.declared.work.Work.TheVariants.{Free}
 use Rattle.nest.proofs.making.clear.Goals as goal

@@ -10,7 +10,7 @@ use Rattle.script.proofs.running.run_lines.Given as given
 use Rattle.script.proofs.running.run_lines.Goals as goal
 
 abbrev the-rules : (g : given.Over) → Rules g.row.T-Key.Denot g.row.T-Element.Denot
-the-rules g = rules g.Key.Key.before g.Key.Text.bytes g.Element.Text.bytes g.T.Trade.key_at g.T.Trade.element_at g.T.Trade.blank_key g.T.Trade.blank_element
+the-rules g = rules g.T.Key.Key.before g.T.Key.Text.bytes g.T.Element.Text.bytes g.T.Trade.key_at g.T.Trade.element_at g.T.Trade.blank_key g.T.Trade.blank_element
 
 pub returns-in_err-obey_lines : goal.returns-in_err-obey_lines
 returns-in_err-obey_lines g c =

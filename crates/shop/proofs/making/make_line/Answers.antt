@@ -1,8 +1,7 @@
 -- What is handed to the making passes its check, and what is made is handed on.
-use Rattle.std.proofs.Common.{◌≡◌, ◌+◌, length, replicate, vec_items, vec_len, ap, ◌∙◌}
+use Rattle.std.proofs.Common.{◌≡◌, ◌+◌, length, vec_len, ap, ◌∙◌}
 use lib.ListN.{length-replicate}
 use Rattle.line_model.specs.Fresh.{fresh}
-use Rattle.shop.specs.Shop.{line_node}
 use Rattle.shop.proofs.Checks.{line_fine}
 use Rattle.shop.proofs.making.make_line.Goals as goal
 

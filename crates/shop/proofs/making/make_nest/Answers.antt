@@ -1,8 +1,7 @@
 -- What is handed to the making passes its check, and what is made is handed on.
-use Rattle.std.proofs.Common.{◌≡◌, ◌+◌, length, replicate, vec_items, vec_len, ap, ◌∙◌}
+use Rattle.std.proofs.Common.{◌≡◌, ◌+◌, length, vec_len, ap, ◌∙◌}
 use lib.ListN.{length-replicate}
 use Rattle.nest_model.specs.Making.{made}
-use Rattle.shop.specs.Shop.{nest_node}
 use Rattle.shop.proofs.Checks.{nest_accepted}
 use Rattle.shop.proofs.making.make_nest.Goals as goal
 

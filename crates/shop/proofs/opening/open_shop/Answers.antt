@@ -1,5 +1,5 @@
 -- Sizes that pass the check are in their ranges.
-use Rattle.std.proofs.Common.{◌≡◌, sym, ap, ◌∙◌}
+use Rattle.std.proofs.Common.{sym, ap, ◌∙◌}
 use Rattle.std.proofs.lemmas.Result.{err_from_is_err_and}
 use Rattle.shop.specs.Shop.{or_memory}
 use Rattle.shop.proofs.Checks.{sizes_in_range, sizes_unrefused, sizes_refused}

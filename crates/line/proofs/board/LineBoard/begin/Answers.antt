@@ -1,11 +1,9 @@
 -- Whether an operation is taken, and what is left then. That a station does not exist is left to the search.
-use Rattle.std.proofs.Common.{◌≡◌, ℕ, ◌≤◌, ltb, length, None, vec_items, sym, refl, ap, ◌∙◌, ap₂, arith}
+use Rattle.std.proofs.Common.{ℕ, ◌≤◌, length, None, sym, ap, ◌∙◌, ap₂, arith}
 use Rattle.std.proofs.lemmas.Bool.{lt-ltb, le-ltb}
-use Rattle.plain_model.specs.declared.line_op.LineOp.{LineOp}
-use Rattle.plain_model.specs.declared.line_op.LineOp.TheVariants.{Put, Take}
-use Rattle.line_model.specs.declared.seat.Seat.TheVariants.{Free, E1, D1}
-use Rattle.line_model.specs.Line.{LineModel, has_space, started, sit, take_node}
-use Rattle.line_model.proofs.Acts.{began, refused, can_begin_lem, no_space, seat_taken, sit_after}
+use Rattle.line_model.specs.declared.seat.Seat.TheVariants.{E1}
+use Rattle.line_model.specs.Line.{LineModel, has_space, started, sit}
+use Rattle.line_model.proofs.Acts.{began, refused, can_begin_lem, no_space, seat_taken}
 use Rattle.line.specs.View.{model_of}
 use Rattle.line.proofs.board.LineBoard.begin.Goals as goal
 

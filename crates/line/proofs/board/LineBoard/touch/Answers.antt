@@ -1,5 +1,5 @@
 -- What a touch does follows from the seat that was read. The arm of E6 is left to the search.
-use Rattle.std.proofs.Common.{◌≡◌, Some, None, refl}
+use Rattle.std.proofs.Common.{Some, refl}
 use Rattle.line_model.specs.declared.seat.Seat.TheVariants.{Free, E1, E2, E3, E4, E5, D1, D2, D3, D4, D5, Ready}
 use Rattle.line_model.specs.Line.{tail_set}
 use Rattle.line_model.specs.Nodes.{next_of}

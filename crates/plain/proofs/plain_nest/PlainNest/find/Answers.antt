@@ -1,5 +1,5 @@
 -- A key that is found stands at the place; one that is not found is in no place.
-use Rattle.std.proofs.Common.{◌≡◌, ◌<◌, ◌≤◌, true, false, length, get_or, take, vec_items, subst, arith}
+use Rattle.std.proofs.Common.{◌≡◌, ◌<◌, ◌≤◌, true, false, length, get_or, vec_items, subst, arith}
 use Rattle.std.proofs.lemmas.List.{take_all}
 use Rattle.plain_model.specs.Nest.{same, has}
 use Rattle.plain.proofs.Search.{find_passes, find_stands}

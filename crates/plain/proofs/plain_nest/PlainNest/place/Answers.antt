@@ -1,6 +1,5 @@
 -- The key belongs at the first key that is not before it, or at the end.
-use Rattle.std.proofs.Common.{◌≡◌, ◌<◌, ◌≤◌, true, false, length, get_or, take, vec_items, vec_len, sym, ap, ◌∙◌, subst, arith}
-use Rattle.plain_model.specs.Nest.{insert}
+use Rattle.std.proofs.Common.{◌≡◌, ◌<◌, true, false, length, get_or, take, vec_items, vec_len, sym, ◌∙◌, subst, arith}
 use Rattle.plain.specs.Search.{all_before, Belongs}
 use Rattle.plain.proofs.Search.{place_passes, place_belongs, place_last}
 use Rattle.plain.proofs.plain_nest.PlainNest.place.Goals as goal

@@ -10,7 +10,7 @@ use std::alloc::{AllocError, Global};
 
 // The items of a board's contents, in their order.
 fn listing<B: Board>(heap: Global, board: &B) -> Result<Vec<B::Item>, AllocError>
-    ensures { IfOk result (λ v. v.items ≡ plain.listed (means.contents (model board.now))) }
+    ensures { IfOk result (λ v. v.items ≡ B.plain.listed (B.means.contents (B.model board.now))) }
 {
     let count = board.items();
     // no memory holds so many items
@@ -36,11 +36,9 @@ pub fn put_contents<B: Board>(
 ) -> Result<(), AllocError>
 where
     B::Item: Text,
-    ensures { OnOk result (string_bytes out.new ≡ string_bytes out.old ++ list_text B.Item.Text.bytes name.now (plain.listed (means.contents (model board.now)))) }
+    ensures { OnOk result (string_bytes out.new ≡ string_bytes out.old ++ list_text B.Item.Text.bytes name.now (B.plain.listed (B.means.contents (B.model board.now)))) }
 {
     let items = listing(heap, board)?;
-    match put_list(out, name, &items) {
-        Ok(()) => Ok(()),
-        Err(_) => Err(AllocError),
-    }
+    put_list(out, name, &items)?;
+    Ok(())
 }

@@ -4,6 +4,7 @@ ghost use Rattle.script_model.specs.Report.{joined, on_line, entry_text};
 
 use floor_model::line::Line;
 use keys::text::Text;
+use std::alloc::AllocError;
 use std::fmt;
 
 // A line of a ledger as a report prints it.
@@ -24,7 +25,7 @@ impl<'l, O: Text, R: Text> fmt::Display for Entry<'l, O, R> {
     }
 }
 
-fn put_entry<O: Text, R: Text>(out: &mut String, line: &Line<O, R>) -> fmt::Result
+fn put_entry<O: Text, R: Text>(out: &mut String, line: &Line<O, R>) -> Result<(), AllocError>
     ensures { OnOk result (string_bytes out.new ≡ string_bytes out.old ++ on_line (entry_text O.Text.bytes R.Text.bytes) line.now) }
 {
     let entry = Entry { line };
@@ -32,7 +33,7 @@ fn put_entry<O: Text, R: Text>(out: &mut String, line: &Line<O, R>) -> fmt::Resu
 }
 
 // Each line of a ledger as an entry on a line of its own.
-pub fn put_entries<O: Text, R: Text>(out: &mut String, lines: &[Line<O, R>]) -> fmt::Result
+pub fn put_entries<O: Text, R: Text>(out: &mut String, lines: &[Line<O, R>]) -> Result<(), AllocError>
     ensures { OnOk result (string_bytes out.new ≡ string_bytes out.old ++ joined (on_line (entry_text O.Text.bytes R.Text.bytes)) lines.now) }
 {
     let mut left = lines;

@@ -33,8 +33,8 @@ fn obey_line<T: Trade, B: Board<Op = Operation<T::Key, T::Element>>>(
 ) -> Result<Reply<B::Answer>, Stop>
 where
     B::Answer: Text,
-    ensures ran { Fits means sound (floor_of model floor.old) → LineRan B.Answer.Text.bytes result (line_step steps means (operation_at T.Trade.key_at T.Trade.element_at) (state (floor_of model floor.old) ledger.old) number line.now) (string_bytes out.old) (string_bytes out.new) (state (floor_of model floor.new) ledger.new) }
-    ensures fits { Fits means sound (floor_of model floor.old) → Fits means sound (floor_of model floor.new) }
+    ensures ran { Fits B.means B.sound (floor_of B.model floor.old) → LineRan B.Answer.Text.bytes result (line_step B.steps B.means (operation_at T.Trade.key_at T.Trade.element_at) (state (floor_of B.model floor.old) ledger.old) number line.now) (string_bytes out.old) (string_bytes out.new) (state (floor_of B.model floor.new) ledger.new) }
+    ensures fits { Fits B.means B.sound (floor_of B.model floor.old) → Fits B.means B.sound (floor_of B.model floor.new) }
 {
     let call = line_call::<T>(heap, line, number)?;
     let reply = obey(floor, ledger, &call);
@@ -53,8 +53,8 @@ pub fn obey_lines<'s, T: Trade, B: Board<Op = Operation<T::Key, T::Element>>>(
 where
     B::Answer: Text,
     requires { length script.now ≤ 32768 }
-    ensures ran { Fits means sound (floor_of model floor.old) → LinesRan steps means (operation_at T.Trade.key_at T.Trade.element_at) B.Answer.Text.bytes result script.now (string_bytes out.old) (string_bytes out.new) (state (floor_of model floor.old) ledger.old) (state (floor_of model floor.new) ledger.new) }
-    ensures fits { Fits means sound (floor_of model floor.old) → Fits means sound (floor_of model floor.new) }
+    ensures ran { Fits B.means B.sound (floor_of B.model floor.old) → LinesRan B.steps B.means (operation_at T.Trade.key_at T.Trade.element_at) B.Answer.Text.bytes result script.now (string_bytes out.old) (string_bytes out.new) (state (floor_of B.model floor.old) ledger.old) (state (floor_of B.model floor.new) ledger.new) }
+    ensures fits { Fits B.means B.sound (floor_of B.model floor.old) → Fits B.means B.sound (floor_of B.model floor.new) }
 {
     let mut rest = script;
     let mut number = 2;

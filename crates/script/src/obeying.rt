@@ -17,9 +17,9 @@ pub fn obey<B: Board>(
     ledger: &mut [Line<B::Op, B::Answer>],
     call: &Call<B::Op>,
 ) -> Reply<B::Answer>
-    ensures told { result ≡ (obeyed steps means (state (floor_of model floor.old) ledger.old) call.now).1 }
-    ensures left { Fits means sound (floor_of model floor.old) → state (floor_of model floor.new) ledger.new ≡ (obeyed steps means (state (floor_of model floor.old) ledger.old) call.now).0 }
-    ensures fits { Fits means sound (floor_of model floor.old) → Fits means sound (floor_of model floor.new) }
+    ensures told { result ≡ (obeyed B.steps B.means (state (floor_of B.model floor.old) ledger.old) call.now).1 }
+    ensures left { Fits B.means B.sound (floor_of B.model floor.old) → state (floor_of B.model floor.new) ledger.new ≡ (obeyed B.steps B.means (state (floor_of B.model floor.old) ledger.old) call.now).0 }
+    ensures fits { Fits B.means B.sound (floor_of B.model floor.old) → Fits B.means B.sound (floor_of B.model floor.new) }
 {
     match call {
         Call::Start(station, Ok(op)) => match floor.start(*station, op) {

@@ -20,13 +20,11 @@ pub fn put_report<K: Key + Text, E: Copy + Text, P>(
     ledger: &[ShopLine<K, E>],
     out: &mut String,
 ) -> Result<(), AllocError>
-    ensures { OnOk result (string_bytes out.new ≡ string_bytes out.old ++ shop_report before K.Text.bytes E.Text.bytes (state (floor_of shop_model floor.now) ledger.now)) }
+    ensures { OnOk result (string_bytes out.new ≡ string_bytes out.old ++ shop_report K.before K.Text.bytes E.Text.bytes (state (floor_of shop_model floor.now) ledger.now)) }
 {
     put_contents(heap, floor.board().first(), "nest", out)?;
     put_contents(heap, floor.board().second(), "line", out)?;
     let (lines, _) = ledger.split_at(floor.written().min(ledger.len()));
-    match put_entries(out, lines) {
-        Ok(()) => Ok(()),
-        Err(_) => Err(AllocError),
-    }
+    put_entries(out, lines)?;
+    Ok(())
 }

@@ -54,7 +54,7 @@ fn finish<K: Key + Text, E: Copy + Text, P>(
     ledger: &[ShopLine<K, E>],
     out: &mut String,
 ) -> Result<Ending, Stop>
-    ensures { PartRan result (shop_report before K.Text.bytes E.Text.bytes (state (floor_of shop_model floor.now) ledger.now), Reported) (string_bytes out.old) (string_bytes out.new) }
+    ensures { PartRan result (shop_report K.before K.Text.bytes E.Text.bytes (state (floor_of shop_model floor.now) ledger.now), Reported) (string_bytes out.old) (string_bytes out.new) }
 {
     match put_report(heap, floor, ledger, out) {
         Ok(()) => Ok(Ending::Reported),

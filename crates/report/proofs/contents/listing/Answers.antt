@@ -6,8 +6,8 @@ use Rattle.report.proofs.contents.listing.Goals as goal
 pub returns-in-None : goal.returns-in-None
 returns-in-None g c = c.new.ensures.items ∙ sym (no_first _ c.in-None.ensures)
 
-pub returns-in_ok-items : goal.returns-in_ok-items
-returns-in_ok-items g c =
+pub returns-in_ok-items-in-Some : goal.returns-in_ok-items-in-Some
+returns-in_ok-items-in-Some g c =
     let b = g.B.Board in
     let xs = b.plain.listed (b.means.contents (b.model c.args.board.now)) in
     shown_all xs (vec_items c.in_ok-items.items) c.deref-mut.result.now c.show.new.list c.in_ok-items.items.items

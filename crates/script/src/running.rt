@@ -71,7 +71,7 @@ fn run_lines<T: Trade>(
     out: &mut String,
 ) -> Result<Ending, Stop>
     requires { length script.now ≤ 32768 }
-    ensures { ShopFits (rules T.Key.Key.before T.Key.Text.bytes T.Element.Text.bytes T.Trade.key_at T.Trade.element_at T.Trade.blank_key T.Trade.blank_element) (floor_of shop_model floor) → PartRan result (shop_ran (rules T.Key.Key.before T.Key.Text.bytes T.Element.Text.bytes T.Trade.key_at T.Trade.element_at T.Trade.blank_key T.Trade.blank_element) (state (floor_of shop_model floor) ledger.old) script.now) (string_bytes out.old) (string_bytes out.new) }
+    ensures { ShopFits (rules T.Key.before T.Key.bytes T.Element.bytes T.Trade.key_at T.Trade.element_at T.Trade.blank_key T.Trade.blank_element) (floor_of shop_model floor) → PartRan result (shop_ran (rules T.Key.before T.Key.bytes T.Element.bytes T.Trade.key_at T.Trade.element_at T.Trade.blank_key T.Trade.blank_element) (state (floor_of shop_model floor) ledger.old) script.now) (string_bytes out.old) (string_bytes out.new) }
 {
     match obey_lines::<T, ShopBoard<T::Key, T::Element>>(heap, &mut floor, ledger, script, out)? {
         Worked::Open => finish(heap, &floor, ledger, out),

@@ -10,7 +10,7 @@ pub returns-in_ok-items-in-Some : goal.returns-in_ok-items-in-Some
 returns-in_ok-items-in-Some g c =
     let b = g.B.Board in
     let xs = b.plain.listed (b.means.contents (b.model c.args.board.now)) in
-    shown_all xs (vec_items c.in_ok-items.items) c.deref-mut.result.now c.show.new.list c.in_ok-items.items.items
-    c.items-count.result c.in_ok-items.items.len c.in-Some.first c.show.result
+    shown_all xs (vec_items c.in_ok-items-in-Some.items) c.deref_mut.result.now c.show.new.list c.in_ok-items-in-Some.items.items
+    c.items-count.result c.in_ok-items-in-Some.items.len c.in-Some.first c.show.result
     (counted xs c.items-count.result c.items-count.ensures c.if-count.false)
-    c.in_ok-items.ensures c.deref-mut.ensures.value c.show.ensures.told c.show.ensures.left c.in_ok-items.items.ok.0
+    c.in_ok-items-in-Some.ensures c.deref_mut.ensures.value c.show.ensures.told c.show.ensures.left c.in_ok-items-in-Some.items.ok.0

@@ -18,7 +18,7 @@ returns-in_err-reply g c =
     record {
       ran = λ fits report.
           rw (p.1, p.2)
-          (stopped b.steps b.means (operation_at g.T.Trade.key_at g.T.Trade.element_at) g.Answer.Text.bytes report
+          (stopped b.steps b.means (operation_at g.T.Trade.key_at g.T.Trade.element_at) g.B.Answer.Text.bytes report
           (state (floor_of b.model c.loop-rest.floor) c.loop-rest.ledger) (state (floor_of b.model c.obey_line.new.floor) c.obey_line.new.ledger)
           c.loop-rest.number c.loop-rest.rest.now c.first_line.result.0.now c.first_line.result.1.now
           (string_bytes c.loop-rest.out) (string_bytes c.obey_line.new.out) _
@@ -34,7 +34,7 @@ returns-in-Closed g c =
     record {
       ran = λ fits report.
           let told = c.in_ok-reply.ensures.ran (c.loop-rest.invariant.1 fits).0 in
-          closed b.steps b.means (operation_at g.T.Trade.key_at g.T.Trade.element_at) g.Answer.Text.bytes report
+          closed b.steps b.means (operation_at g.T.Trade.key_at g.T.Trade.element_at) g.B.Answer.Text.bytes report
           (state (floor_of b.model c.loop-rest.floor) c.loop-rest.ledger)
           c.loop-rest.number c.loop-rest.rest.now c.first_line.result.0.now c.first_line.result.1.now (string_bytes c.loop-rest.out) _
           some c.first_line.ensures.line c.first_line.ensures.after ((c.loop-rest.invariant.1 fits).1 report)
@@ -58,7 +58,7 @@ loop-rest-preserved g c =
         c.obey_line.ensures.fits (c.loop-rest.invariant.1 fits).0,
         λ report.
             let told = c.in_ok-reply.ensures.ran (c.loop-rest.invariant.1 fits).0 in
-            went_on b.steps b.means (operation_at g.T.Trade.key_at g.T.Trade.element_at) g.Answer.Text.bytes report
+            went_on b.steps b.means (operation_at g.T.Trade.key_at g.T.Trade.element_at) g.B.Answer.Text.bytes report
             (state (floor_of b.model c.loop-rest.floor) c.loop-rest.ledger)
             c.loop-rest.number c.loop-rest.rest.now c.first_line.result.0.now c.first_line.result.1.now (string_bytes c.loop-rest.out) _
             some c.first_line.ensures.line c.first_line.ensures.after ((c.loop-rest.invariant.1 fits).1 report)
@@ -73,7 +73,7 @@ returns g c =
     let none = none_left c.loop-rest.rest.now c.is_empty.result c.is_empty.ensures c.loop-rest-test.false in
     record {
       ran = λ fits report.
-          ended b.steps b.means (operation_at g.T.Trade.key_at g.T.Trade.element_at) g.Answer.Text.bytes report
+          ended b.steps b.means (operation_at g.T.Trade.key_at g.T.Trade.element_at) g.B.Answer.Text.bytes report
           (state (floor_of b.model c.loop-rest.floor) c.loop-rest.ledger) c.loop-rest.number c.loop-rest.rest.now
           (string_bytes c.loop-rest.out) _ none ((c.loop-rest.invariant.1 fits).1 report);
       fits = λ fits. (c.loop-rest.invariant.1 fits).0;

@@ -13,7 +13,7 @@ abbrev pub invariant-loop-rest : goal.invariant-loop-rest
 invariant-loop-rest g l =
     let b = g.B.Board in
     let at = operation_at g.T.Trade.key_at g.T.Trade.element_at in
-    let text = g.Answer.Text.bytes in
+    let text = g.B.Answer.Text.bytes in
     (l.number + length l.rest ≤ 2 + length l.script) ×
     (Fits b.means b.sound (floor_of b.model l.initial.floor) →
     Fits b.means b.sound (floor_of b.model l.floor) ×

@@ -17,9 +17,9 @@ pub returns-in_err-put_contents-2 : goal.returns-in_err-put_contents-2
 returns-in_err-put_contents-2 g c =
     let p = err_from_is_err_and c.from_residual-in_err-put_contents-2.result c.from_residual-in_err-put_contents-2.ensures.1 in rw p.1 tt
 
-pub returns-in-Ok : goal.returns-in-Ok
+pub returns : goal.returns
 unfolding shop_report
-returns-in-Ok g c =
+returns g c =
     let key = g.K.Text.bytes in
     let element = g.E.Text.bytes in
     let board = c.args.floor.now.board in
@@ -32,5 +32,5 @@ returns-in-Ok g c =
     (ap (λ n. nest-meaning.contents (nest-view.model_of n)) (c.first.ensures ∙ ap (λ b. b.first) c.board.ensures))
     c.in_ok-put_contents-2.ensures
     (ap (λ l. line-meaning.contents (line_view.model_of l)) (c.second.ensures ∙ ap (λ b. b.second) c.board-2.ensures))
-    c.in-Ok.ensures
+    c.in_ok-put_entries.ensures
     (c.split_at.ensures.front ∙ ap (λ k. take k c.args.ledger.now) (c.min.ensures ∙ ap (λ w. min w (length c.args.ledger.now)) c.written.ensures))

@@ -16,9 +16,9 @@ pub returns-in_err-put_reply : goal.returns-in_err-put_reply
 returns-in_err-put_reply g c =
     let p = err_from_is_err_and c.from_residual.result c.from_residual.ensures.1 in rw (p.1, p.2) (record { ran = tt; day = tt })
 
-pub returns-in_err-put_reply-2 : goal.returns-in_err-put_reply-2
-returns-in_err-put_reply-2 g c =
-    let p = err_from_is_err_and c.from_residual-in_err-put_reply-2.result c.from_residual-in_err-put_reply-2.ensures.1 in rw (p.1, p.2) (record { ran = tt; day = tt })
+pub returns-in_err-put_reply-in-Ok : goal.returns-in_err-put_reply-in-Ok
+returns-in_err-put_reply-in-Ok g c =
+    let p = err_from_is_err_and c.from_residual-in_err-put_reply-in-Ok.result c.from_residual-in_err-put_reply-in-Ok.ensures.1 in rw (p.1, p.2) (record { ran = tt; day = tt })
 
 pub returns-in-Err : goal.returns-in-Err
 returns-in-Err g c =
@@ -28,8 +28,8 @@ returns-in-Err g c =
       day = refused_day c.args.opening c.in-Err.reason c.in-Err.ensures;
     }
 
-pub returns-in_ok-put_reply-2 : goal.returns-in_ok-put_reply-2
-returns-in_ok-put_reply-2 g c =
+pub returns-in_ok-put_reply-in-Ok : goal.returns-in_ok-put_reply-in-Ok
+returns-in_ok-put_reply-in-Ok g c =
     let shop = c.in-Ok.ensures in
     let r = the-rules g in
     let o = c.args.opening in
@@ -38,8 +38,8 @@ returns-in_ok-put_reply-2 g c =
     c.blank_key.ensures c.blank_element.ensures shop.opened.floor_is shop.opened.ledger_is in
     record {
       ran = begun_ran r o rest shop.sizes (string_bytes c.args.out.now) (string_bytes c.put_reply-in-Ok.new.out)
-          (floor_of shop_model c.in-Ok.floor) (vec_items c.in-Ok.ledger) c.deref-mut.result.now same c.deref-mut.ensures.value
-          c.in_ok-put_reply-2.ensures c.run_lines.result (string_bytes c.run_lines.new.out) (c.run_lines.ensures shop.opened.fits);
+          (floor_of shop_model c.in-Ok.floor) (vec_items c.in-Ok.ledger) c.deref_mut.result.now same c.deref_mut.ensures.value
+          c.in_ok-put_reply-in-Ok.ensures c.run_lines.result (string_bytes c.run_lines.new.out) (c.run_lines.ensures shop.opened.fits);
       day = unless_memory c.run_lines.result (λ none. begun_day r o rest none
           (subst (Law (shop_plain g.row.T-Element.Denot r.before) (shop_steps g.row.T-Element.Denot r.before) (shop_means g.row.T-Element.Denot r.before)) same shop.opened.law));
     }

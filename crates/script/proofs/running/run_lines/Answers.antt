@@ -27,20 +27,20 @@ returns-in-Open g c fits =
     c.in_ok-obey_lines.field-0 (c.in_ok-obey_lines.ensures.ran fits) c.in-Open.is
     c.finish.result (string_bytes c.finish.new.out) c.finish.ensures
 
-pub returns-in_err-no_line : goal.returns-in_err-no_line
-returns-in_err-no_line g c =
-    let p = err_from_is_err_and c.from_residual-in_err-no_line.result c.from_residual-in_err-no_line.ensures.1 in
+pub returns-in_err-no_line-in-Closed : goal.returns-in_err-no_line-in-Closed
+returns-in_err-no_line-in-Closed g c =
+    let p = err_from_is_err_and c.from_residual-in_err-no_line-in-Closed.result c.from_residual-in_err-no_line-in-Closed.ensures.1 in
     rw (p.1, p.2)
     (λ fits. shop_follows (the-rules g) (state (floor_of shop_model c.args.floor) c.args.ledger.now) (state (floor_of shop_model c.obey_lines.new.floor) c.obey_lines.new.ledger)
     c.args.script.now (string_bytes c.args.out.now) (string_bytes c.obey_lines.new.out)
     c.in_ok-obey_lines.field-0 (c.in_ok-obey_lines.ensures.ran fits) c.in-Closed.rest c.in-Closed.number c.in-Closed.is
-    c.in_err-no_line.field-0.0 c.in_err-no_line.ensures)
+    c.in_err-no_line-in-Closed.field-0.0 c.in_err-no_line-in-Closed.ensures)
 
-pub returns-in_ok-no_line : goal.returns-in_ok-no_line
-returns-in_ok-no_line g c fits =
+pub returns-in_ok-no_line-in-Closed : goal.returns-in_ok-no_line-in-Closed
+returns-in_ok-no_line-in-Closed g c fits =
     shop_closed (the-rules g) (state (floor_of shop_model c.args.floor) c.args.ledger.now) (state (floor_of shop_model c.obey_lines.new.floor) c.obey_lines.new.ledger)
     c.args.script.now (string_bytes c.args.out.now) (string_bytes c.obey_lines.new.out)
     c.in_ok-obey_lines.field-0 (c.in_ok-obey_lines.ensures.ran fits) c.in-Closed.rest c.in-Closed.number c.in-Closed.is
-    c.in_ok-no_line.ensures
+    c.in_ok-no_line-in-Closed.ensures
     (state (floor_of shop_model c.close.result) c.obey_lines.new.ledger) (ap (λ f. state f c.obey_lines.new.ledger) c.close.ensures.left)
     c.finish-in-Closed.result (string_bytes c.finish-in-Closed.new.out) c.finish-in-Closed.ensures

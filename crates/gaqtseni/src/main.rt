@@ -44,9 +44,9 @@ impl Named for PlotOrder {
 // A refusal as an error of the program.
 fn failed(refusal: Refusal) -> anyhow::Error {
     match refusal {
-        Refusal::NoMemory => "memory is lacking".into(),
-        Refusal::OutOfRange => "a number is out of its range".into(),
-        _ => "a call was sent back".into(),
+        Refusal::NoMemory => anyhow!("memory is lacking"),
+        Refusal::OutOfRange => anyhow!("a number is out of its range"),
+        _ => anyhow!("a call was sent back"),
     }
 }
 

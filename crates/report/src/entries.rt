@@ -33,7 +33,10 @@ fn put_entry<O: Text, R: Text>(out: &mut String, line: &Line<O, R>) -> Result<()
 }
 
 // Each line of a ledger as an entry on a line of its own.
-pub fn put_entries<O: Text, R: Text>(out: &mut String, lines: &[Line<O, R>]) -> Result<(), AllocError>
+pub fn put_entries<O: Text, R: Text>(
+    out: &mut String,
+    lines: &[Line<O, R>],
+) -> Result<(), AllocError>
     ensures { OnOk result (string_bytes out.new ≡ string_bytes out.old ++ joined (on_line (entry_text O.Text.bytes R.Text.bytes)) lines.now) }
 {
     let mut left = lines;

@@ -1,5 +1,5 @@
 -- Every run of lines is that of a list of calls on its floor.
-use Rattle.std.proofs.Common.{◌≡◌, ℕ, ◌+◌, Bool, true, false, cond, List, [], ◌∷◌, ◌++◌, Some, None, Ok, Err, codes, Option, Result, sym, refl, ap, ◌∙◌, append_assoc}
+use Rattle.std.proofs.Common.{◌≡◌, ℕ, ◌+◌, false, cond, List, [], ◌∷◌, ◌++◌, Some, None, Ok, Err, codes, Option, Result, sym, refl, ap, ◌∙◌, append_assoc}
 use Rattle.keys.specs.declared.refusal.Refusal.{Refusal}
 use Rattle.plain_model.specs.Machine.{Machine}
 use Rattle.boards.specs.Board.{Steps, Meaning}
@@ -11,10 +11,10 @@ use Rattle.forms_model.specs.Calls.{line_call}
 use Rattle.forms_model.specs.declared.call.Call.{Call as Form}
 use Rattle.forms_model.specs.declared.call.Call.TheVariants.{Start, Touch, Collect, Close}
 use Rattle.floor_model.specs.Floor.{start, touch, collect, close_refusal}
-use Rattle.floor_model.specs.History.{State, Call, to_start, to_touch, to_collect, Event, start_event, touch_event, collect_event, does, after, history}
-use Rattle.script_model.specs.Day.{event_text, Replies, silent, told, sent_back, Ends, with_report, at_fault, closed_with_report, closed_at_fault, RunOf}
+use Rattle.floor_model.specs.History.{State, Call, to_start, to_touch, to_collect, start_event, touch_event, collect_event, does, after, history}
+use Rattle.script_model.specs.Day.{event_text, Replies, silent, told, sent_back, with_report, at_fault, closed_with_report, closed_at_fault, RunOf}
 use Rattle.script_model.specs.Replies.{line_of, reply_text, refusal_text}
-use Rattle.script_model.specs.Run.{Printed, then, faulted, line_fault, start_reply, touch_reply, collect_reply, close_reply, is_closed, obeyed, stepped, reported, after_close, turned, ran}
+use Rattle.script_model.specs.Run.{Printed, then, faulted, line_fault, start_reply, touch_reply, collect_reply, close_reply, is_closed, stepped, after_close, turned, ran}
 use Rattle.script_model.specs.declared.reply.Reply.{Reply}
 
 module _ {Model Plain Op Answer Item : Type 0} (plain : Machine Plain Op Answer Item) (steps : Steps Model Op Answer) (means : Meaning Model Plain Op Answer)

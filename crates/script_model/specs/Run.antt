@@ -13,13 +13,13 @@ use Rattle.forms_model.specs.Reading.{Parsed}
 use Rattle.forms_model.specs.Calls.{line_call}
 use Rattle.forms_model.specs.declared.call.Call.{Call}
 use Rattle.forms_model.specs.declared.call.Call.TheVariants.{Start, Touch, Collect, Close}
-use Rattle.floor_model.specs.Floor.{Floor, start, touch, collect, close_refusal}
+use Rattle.floor_model.specs.Floor.{start, touch, collect, close_refusal}
 use Rattle.floor_model.specs.History.{State}
 use Rattle.script_model.specs.Replies.{line_of, reply_text}
 use Rattle.script_model.specs.declared.reply.Reply.{Reply}
 use Rattle.script_model.specs.declared.reply.Reply.TheVariants.{Opened, Started, Touched, Collected, Closed, Refused}
 use Rattle.script_model.specs.declared.ending.Ending.{Ending}
-use Rattle.script_model.specs.declared.ending.Ending.TheVariants.{Reported, NotOpened, Faulty}
+use Rattle.script_model.specs.declared.ending.Ending.TheVariants.{Reported, Faulty}
 
 -- what a run prints from some place of the script on, and how it ends
 abbrev pub Printed : Type 0

@@ -2,7 +2,7 @@
 use Rattle.std.proofs.Common.{◌≡◌, ℕ, ◌+◌, ◌≤◌, List, length, string_bytes}
 use Rattle.lex.specs.Lines.{lines_of}
 use Rattle.forms_model.specs.Operations.{operation_at}
-use Rattle.floor_model.specs.Floor.{Floor, Fits}
+use Rattle.floor_model.specs.Floor.{Fits}
 use Rattle.floor_model.specs.History.{State}
 use Rattle.floor.specs.Model.{floor_of}
 use Rattle.script_model.specs.Run.{then, ran}

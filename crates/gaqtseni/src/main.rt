@@ -59,7 +59,10 @@ fn checked<T>(res: Result<T, Refusal>) -> anyhow::Result<T> {
 
 // A floor with its ledger, as a host holds them.
 #[derive(Drop)]
-struct Shop<K: Key, E: Copy> {
+struct Shop<K: Key, E: Copy>
+where
+    ShopBoard<K, E>: Board,
+{
     floor: OpenFloor<ShopBoard<K, E>>,
     ledger: Vec<ShopLine<K, E>>,
 }

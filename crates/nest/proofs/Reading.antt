@@ -1,6 +1,5 @@
 -- What a read of a table by place gives.
-use Rattle.std.proofs.Common.{◌≡◌, ℕ, zero, suc, ◌-◌, ◌<◌, ◌≤◌, min, List, length, get_or, Some, None, Option, sym, refl, ◌∙◌, arith, Bor}
-use native.Mathlib.Nat.{min-eq_left}
+use Rattle.std.proofs.Common.{◌≡◌, ℕ, zero, suc, ◌-◌, ◌≤◌, List, length, get_or, Some, None, Option, sym, refl, ◌∙◌, arith, Bor}
 use lib.ListN.{get_or-eq_default}
 use lib.Seq.{set_out}
 use Rattle.std.specs.Option.{option_map}
@@ -31,7 +30,3 @@ module _ {K : Type 0} where
 
   pub put_zero : (ws : List (Work K)) (p : ℕ) (w : Work K) → p ≡ 0 → put_at ws p w ≡ ws
   put_zero ws p w e = rw e
-
--- a number that fits 64 bits is the smaller one beside the largest that does
-pub saturated : (n m : ℕ) → n ≡ m → n < 18446744073709551616 → n ≡ min m 18446744073709551615
-saturated n m e h = let small : m ≤ 18446744073709551615 = omega (arith, e) in e ∙ sym (min-eq_left small)

@@ -1,4 +1,4 @@
--- What a touch does follows from the seat that was read. The arm of E6 is left to the search.
+-- What a touch does follows from the seat that was read. The arms of E6 and D1 are left to the search.
 use Rattle.std.proofs.Common.{Some, refl}
 use Rattle.line_model.specs.declared.seat.Seat.TheVariants.{Free, E1, E2, E3, E4, E5, D1, D2, D3, D4, D5, Ready}
 use Rattle.line_model.specs.Line.{tail_set}
@@ -41,11 +41,6 @@ pub returns-in-E5 : goal.returns-in-E5
 returns-in-E5 g c =
     let m = model_of c.args.self.now in let p = c.args.station in let w = c.in-E5 in let s = E5 w.element w.own w.end w.n in let e = w.ensures.is in
     record { told = told_by m p s e c.go-in-E5.result c.go-in-E5.ensures.told; left = left_by m p s e (model_of c.go-in-E5.new.self) (sit_after (model_of c.go-in-E5.new.self) (model_of c.set_tail.new.self) (tail_set m w.end w.n) p (E1 w.element w.own (Some w.end) (Some (Some w.n))) c.go-in-E5.ensures.left c.set_tail.ensures.left) }
-
-pub returns-in-D1 : goal.returns-in-D1
-returns-in-D1 g c =
-    let m = model_of c.args.self.now in let p = c.args.station in let w = c.in-D1 in let s = D1 w.field-0 w.end w.n in let e = w.ensures.is in
-    record { told = told_by m p s e c.go-in-D1.result c.go-in-D1.ensures.told; left = left_by m p s e (model_of c.go-in-D1.new.self) c.go-in-D1.ensures.left }
 
 pub returns-in-D2 : goal.returns-in-D2
 returns-in-D2 g c =

@@ -3,28 +3,28 @@ use Rattle.std.specs.Prelude.{◌≡◌, ℕ, ◌+◌, Bool, false, not, ◌&&�
 use Rattle.keys.specs.declared.refusal.Refusal.{Refusal}
 use Rattle.keys.specs.declared.refusal.Refusal.TheVariants.{StationCount, LedgerLimit, NestSize, LineSize, NoMemory}
 use Rattle.plain_model.specs.Machine.{Machine}
-use Rattle.plain_model.specs.Nest as plain-nest
-use Rattle.plain_model.specs.Line as plain-line
+use Rattle.plain_model.specs.Nest as plain_nest
+use Rattle.plain_model.specs.Line as plain_line
 use Rattle.plain_model.specs.Pair.{pair}
 use Rattle.plain_model.specs.declared.nest_op.NestOp.{NestOp}
 use Rattle.plain_model.specs.declared.nest_op.NestAnswer.{NestAnswer}
 use Rattle.plain_model.specs.declared.line_op.LineOp.{LineOp}
-use Rattle.plain_model.specs.declared.line_op.LineOp.TheVariants as line-op
+use Rattle.plain_model.specs.declared.line_op.LineOp.TheVariants as line_op
 use Rattle.plain_model.specs.declared.line_op.LineAnswer.{LineAnswer}
-use Rattle.plain_model.specs.declared.line_op.LineAnswer.TheVariants as line-answer
+use Rattle.plain_model.specs.declared.line_op.LineAnswer.TheVariants as line_answer
 use Rattle.plain_model.specs.declared.side.Side.{Side}
 use Rattle.plain_model.specs.declared.side.Side.TheVariants.{Second}
 use Rattle.boards.specs.Board.{Steps, Meaning}
 use Rattle.nest_model.specs.Model.{NestModel, steps as nest_steps}
 use Rattle.nest_model.specs.Making.{made}
-use Rattle.nest_model.specs.Meaning as nest-meaning
+use Rattle.nest_model.specs.Meaning as nest_meaning
 use Rattle.nest_model.specs.Sound.{Sound as NestSound}
 use Rattle.nest_model.specs.declared.node.Node.{Node as NestNode}
-use Rattle.nest.specs.View as nest-view
+use Rattle.nest.specs.View as nest_view
 use Rattle.nest.specs.declared.Nest.{Nest}
 use Rattle.line_model.specs.Line.{LineModel, steps as line_steps}
 use Rattle.line_model.specs.Fresh.{fresh}
-use Rattle.line_model.specs.Meaning as line-meaning
+use Rattle.line_model.specs.Meaning as line_meaning
 use Rattle.line_model.specs.Sound.{Sound as LineSound}
 use Rattle.line_model.specs.declared.node.Node.{Node as LineNode}
 use Rattle.line.specs.View as line_view
@@ -66,7 +66,7 @@ abbrev pub ShopModel : Type 0 → Type 0 → Type 0
 ShopModel K E = NestModel K × LineModel E
 
 abbrev pub shop_model : {K E : Type 0} → Pair (Nest K) (Line E) → ShopModel K E
-shop_model b = (nest-view.model_of b.first, line_view.model_of b.second)
+shop_model b = (nest_view.model_of b.first, line_view.model_of b.second)
 
 -- the board just made
 abbrev pub shop_board : {K E : Type 0} → (stations nest-nodes line-nodes : ℕ) → K → E → ShopModel K E
@@ -75,21 +75,21 @@ shop_board stations nest-nodes line-nodes key element =
 
 -- a line of the ledger before anything is written on it
 abbrev pub blank_line : {K E : Type 0} → LedgerLine (ShopOp K E) (ShopAnswer E)
-blank_line = record { station = 0; turn = 0; operation = Second line-op.Take; answer = Second line-answer.Empty }
+blank_line = record { station = 0; turn = 0; operation = Second line_op.Take; answer = Second line_answer.Empty }
 
 module _ {K : Type 0} (E : Type 0) (before : K → K → Bool) where
   abbrev pub shop_plain : Machine (List K × List E) (ShopOp K E) (ShopAnswer E) (Side K E)
-  shop_plain = pair (plain-nest.nest before) plain-line.line
+  shop_plain = pair (plain_nest.nest before) plain_line.line
 
   abbrev pub shop_means : Meaning (ShopModel K E) (List K × List E) (ShopOp K E) (ShopAnswer E)
-  shop_means = pair_means (nest-meaning.means before) line-meaning.means
+  shop_means = pair_means (nest_meaning.means before) line_meaning.means
 
   abbrev pub shop_steps : Steps (ShopModel K E) (ShopOp K E) (ShopAnswer E)
-  shop_steps = pair_steps (nest-meaning.means before) line-meaning.means (nest_steps before) line_steps
+  shop_steps = pair_steps (nest_meaning.means before) line_meaning.means (nest_steps before) line_steps
 
   -- the invariant of the board
   abbrev pub ShopSound : ShopModel K E → Type 0
-  ShopSound = PairSound (nest-meaning.means before) line-meaning.means (NestSound before) LineSound
+  ShopSound = PairSound (nest_meaning.means before) line_meaning.means (NestSound before) LineSound
 
 -- A floor just opened with its ledger: which it is, that it fits its invariant, and the law of every list of calls.
 pub record ShopOpened {K E : Type 0} (before : K → K → Bool) (stations limit nest-nodes line-nodes : ℕ) (key : K) (element : E)

@@ -7,7 +7,7 @@ ghost use Rattle.nest_model.specs.Making.{made as nest_made};
 ghost use Rattle.nest_model.specs.Meaning.{means as nest_means};
 ghost use Rattle.nest_model.specs.Sound.{Sound as NestSound};
 ghost use Rattle.line.specs.View.{model_of as line_model};
-ghost use Rattle.line_model.specs.Fresh.{fresh as Line-made};
+ghost use Rattle.line_model.specs.Fresh.{fresh as line_made};
 ghost use Rattle.line_model.specs.Meaning.{means as line_means};
 ghost use Rattle.line_model.specs.Sound.{Sound as LineSound};
 ghost use Rattle.shop.specs.Shop.{nest_node, line_node};
@@ -57,7 +57,7 @@ pub fn make_line<E: Copy>(
     element: E,
 ) -> Result<Line<E>, Refusal>
     requires { (1 ≤ stations) × (stations ≤ 16) × (1 ≤ nodes) × (nodes ≤ 512) }
-    ensures is { IfOk result (λ l. line_model l ≡ Line-made stations nodes (replicate (nodes + 1) (line_node element))) }
+    ensures is { IfOk result (λ l. line_model l ≡ line_made stations nodes (replicate (nodes + 1) (line_node element))) }
     ensures sound { IfOk result (λ l. LineSound (line_model l)) }
     ensures fresh { IfOk result (λ l. Fresh line_means [] (line_model l)) }
     ensures lacking { IfErr result (λ e. e ≡ NoMemory) }

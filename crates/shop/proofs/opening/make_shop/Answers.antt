@@ -3,7 +3,7 @@ use Rattle.std.proofs.Common.{◌≡◌, length, replicate, vec_items, sym, ap, 
 use lib.ListN.{length-replicate}
 use Rattle.std.proofs.lemmas.Result.{err_from_is_err_and}
 use Rattle.boards.specs.Board.{Fresh}
-use Rattle.nest.specs.View as nest-view
+use Rattle.nest.specs.View as nest_view
 use Rattle.line.specs.View as line_view
 use Rattle.floor_model.specs.Floor.{Floor, opened}
 use Rattle.floor_model.proofs.Stations.{all_free_each}
@@ -17,7 +17,7 @@ returns g c =
     let pairs = c.new.ensures.fresh c.in_ok-nest.ensures.sound c.in_ok-line.ensures.sound c.in_ok-nest.ensures.fresh c.in_ok-line.ensures.fresh in
     let sound : ShopSound g.row.E.Denot before (shop_model c.open.result.board) = subst (λ b. ShopSound g.row.E.Denot before (shop_model b)) (sym c.open.ensures.over) pairs.0 in
     let fresh : Fresh (shop_means g.row.E.Denot before) (shop_plain g.row.E.Denot before).empty (shop_model c.open.result.board) = subst (λ b. Fresh (shop_means g.row.E.Denot before) (shop_plain g.row.E.Denot before).empty (shop_model b)) (sym c.open.ensures.over) pairs.1 in
-    let first : (shop_model board).0 ≡ (shop_board c.args.stations c.args.nest_nodes c.args.line_nodes c.args.key c.args.element).0 = ap nest-view.model_of c.new.ensures.first ∙ c.in_ok-nest.ensures.is in
+    let first : (shop_model board).0 ≡ (shop_board c.args.stations c.args.nest_nodes c.args.line_nodes c.args.key c.args.element).0 = ap nest_view.model_of c.new.ensures.first ∙ c.in_ok-nest.ensures.is in
     let second : (shop_model board).1 ≡ (shop_board c.args.stations c.args.nest_nodes c.args.line_nodes c.args.key c.args.element).1 = ap line_view.model_of c.new.ensures.second ∙ c.in_ok-line.ensures.is in
     let both : shop_model board ≡ shop_board c.args.stations c.args.nest_nodes c.args.line_nodes c.args.key c.args.element = λ i. (first i, second i) in
     let limit : c.open.result.limit ≡ c.args.limit = ap (λ (f : Floor (ShopModel g.row.K.Denot g.row.E.Denot)). f.limit) c.open.ensures.left in

@@ -64,11 +64,11 @@ fn the_leftmost_fault_is_told(rt: HostRuntime) {
 #[test]
 fn lines_are_cut_at_newlines(rt: HostRuntime) {
     let (line, rest) = first_line(b"a\n\nb");
-    assert!(rt; line == b"a");
+    assert!(rt; line == b"a".as_slice());
     let (line, rest) = first_line(rest);
     assert!(rt; line.is_empty());
     let (line, rest) = first_line(rest);
-    assert!(rt; line == b"b");
+    assert!(rt; line == b"b".as_slice());
     assert!(rt; rest.is_empty());
     let (_, rest) = first_line(b"a\n");
     assert!(rt; rest.is_empty());

@@ -110,20 +110,21 @@ fn a_nest_answers_in_turn(rt: HostRuntime) -> Result<(), Fail> {
     ];
     let mut nest = PlainNest::new(heap);
     let first = replay(&mut nest, &ops[0..2], heap)?;
-    assert!(rt; first.as_slice() == &[NestAnswer::Added, NestAnswer::Added]);
-    assert!(rt; nest.keys() == &[small, regular]);
+    assert!(rt; first.as_slice() == [NestAnswer::Added, NestAnswer::Added].as_slice());
+    assert!(rt; nest.keys() == [small, regular].as_slice());
     let rest = replay(&mut nest, &ops[2..7], heap)?;
     assert!(rt;
         rest.as_slice()
-            == &[
+            == [
                 NestAnswer::There,
                 NestAnswer::Yes,
                 NestAnswer::Dropped,
                 NestAnswer::Missing,
                 NestAnswer::No,
             ]
+            .as_slice()
     );
-    assert!(rt; nest.keys() == &[regular]);
+    assert!(rt; nest.keys() == [regular].as_slice());
     Ok(())
 }
 
@@ -132,7 +133,7 @@ fn a_line_gives_its_elements_back_in_order(rt: HostRuntime) -> Result<(), Fail> 
     let mut line = PlainLine::new(rt.alloc());
     assert!(rt; line.apply(&LineOp::Put(7u8))? == LineAnswer::Put);
     assert!(rt; line.apply(&LineOp::Put(9))? == LineAnswer::Put);
-    assert!(rt; line.elements() == &[7, 9]);
+    assert!(rt; line.elements() == [7, 9].as_slice());
     assert!(rt; line.apply(&LineOp::Take)? == LineAnswer::Took(7));
     assert!(rt; line.apply(&LineOp::Take)? == LineAnswer::Took(9));
     assert!(rt; line.apply(&LineOp::Take)? == LineAnswer::Empty);

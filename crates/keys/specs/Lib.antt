@@ -6,3 +6,4 @@ pub mod Refusals
 pub mod Sizes
 pub mod Orders
 pub mod Makings
+pub mod Derived

@@ -5,7 +5,6 @@ pub mod cut_ticket;
 pub mod key;
 pub mod piece_code;
 pub mod plot_order;
-mod range;
 pub mod refusal;
 pub mod size_label;
 pub mod text;

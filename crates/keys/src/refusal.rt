@@ -1,9 +1,11 @@
 // Why a call is sent back.
-ghost use Rattle.std.specs.Prelude.{◌≡◌};
-ghost use Rattle.keys.specs.Refusals.{number as number_of_lem};
+ghost use Rattle.std.specs.Prelude.{◌≡◌, Some};
+ghost use Rattle.keys.specs.Refusals.{number as number_of_lem, reason_text};
 ghost use Rattle.keys.specs.declared.refusal.Refusal.TheVariants.{NoMemory};
 
 use std::alloc::{AllocError, AllocFailed};
+use std::error::Error;
+use std::fmt;
 
 // The reasons for which a call is sent back. Each has the number that reports print; want of memory, which is
 // the machine's and not the caller's, has none.
@@ -69,6 +71,35 @@ impl Refusal {
     }
 }
 
+// The reason in words, for the messages of programs.
+impl fmt::Display for Refusal {
+    ghost output = { λ r. Some (reason_text r) };
+
+    fn fmt<W: fmt::Write>(&self, f: &mut fmt::Formatter<W>) -> fmt::Result {
+        match self {
+            Refusal::StationCount => write!(f, "the number of stations is not 1 to 16"),
+            Refusal::LedgerLimit => write!(f, "the number of ledger lines is not 1 to 1024"),
+            Refusal::NestSize => write!(f, "the number of nodes for keys is not 1 to 512"),
+            Refusal::LineSize => write!(f, "the number of nodes for elements is not 1 to 512"),
+            Refusal::ShortTable => write!(f, "a table or a ledger is too short"),
+            Refusal::NoSuchStation => write!(f, "there is no such station"),
+            Refusal::NotFree => write!(f, "the station is not free"),
+            Refusal::StillFree => write!(f, "the station is free"),
+            Refusal::AlreadyReady => write!(f, "the station is ready"),
+            Refusal::StillWaiting => write!(f, "the station still waits"),
+            Refusal::LedgerFull => write!(f, "the ledger is full"),
+            Refusal::NoSpace => write!(f, "the board has no space"),
+            Refusal::StationsBusy => write!(f, "a station is still at work"),
+            Refusal::OutOfRange => write!(f, "a number is out of its range"),
+            Refusal::ShortList => write!(f, "the list is too short"),
+            Refusal::NoMemory => write!(f, "memory is lacking"),
+        }
+    }
+}
+
+impl Error for Refusal {}
+
+// Want of memory has two errors in std, so `?` needs a conversion from each.
 impl From<AllocError> for Refusal {
     ghost from_gives = { λ _ r. r ≡ NoMemory };
 

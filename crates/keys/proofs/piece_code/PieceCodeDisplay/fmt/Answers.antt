@@ -4,7 +4,7 @@ use lib.Utf8.{encode}
 use Rattle.std.specs.Fmt.{HasWritten}
 use Rattle.std.proofs.lemmas.Str.{encode_ascii}
 use Rattle.keys.specs.Makings.{catalogued_ascii}
-use Rattle.keys.proofs.piece_code.calls.PieceCodeDisplay.fmt.Goals as goal
+use Rattle.keys.proofs.piece_code.PieceCodeDisplay.fmt.Goals as goal
 
 pub returns-clause-writes : goal.returns-clause-writes
 returns-clause-writes g c plain ok =

@@ -1,8 +1,8 @@
 // The interface of boards.
-ghost use Rattle.std.specs.Prelude.{◌≡◌, ℕ, ◌-◌, ◌^◌, ◌≤◌, min, length, if◌then◌else◌, nat_le};
+ghost use Rattle.std.specs.Prelude.{◌≡◌, ℕ, ◌-◌, ◌^◌, ◌<◌, ◌≤◌, true, min, length, if◌then◌else◌, nat_le};
 ghost use Rattle.std.specs.List.{slice_get};
 ghost use Rattle.plain_model.specs.Machine.{Machine};
-ghost use Rattle.boards.specs.Board.{Steps, Meaning, over};
+ghost use Rattle.boards.specs.Board.{Steps, Meaning, over, exists, all_free, uncounted};
 ghost use Rattle.boards.specs.Laws.{Laws};
 
 use crate::outcome::Outcome;
@@ -79,6 +79,31 @@ pub trait Board {
     fn show(&self, list: &mut [Self::Item]) -> bool
         ensures told { result ≡ nat_le (length (plain.listed (means.contents (model self.now)))) (length list.old) }
         ensures left { list.new ≡ (if result then over (plain.listed (means.contents (model self.now))) list.old else list.old) };
+
+    // Is there a station of that number?
+    fn exists(&self, station: usize) -> bool
+        ensures within { result ≡ true → station < 17 }
+        ensures told { result ≡ exists means (model self.now) station }
+    {
+        (1..=self.stations()).contains(&station)
+    }
+
+    // Is every station free?
+    fn all_free(&self) -> bool
+        ensures { result ≡ all_free means (model self.now) }
+    {
+        (1..=self.stations()).all(|station| self.station(station).is_free())
+    }
+
+    // How many stations wait uncounted.
+    fn uncounted(&self) -> usize
+        ensures few { result ≤ 16 }
+        ensures told { result ≡ uncounted means (model self.now) }
+    {
+        (1..=self.stations())
+            .filter(|station| self.station(*station).is_uncounted())
+            .count()
+    }
 
     ghost laws: { Laws plain steps means sound };
 }

@@ -1,0 +1,71 @@
+-- What is asked of all the stations of a board, and what a station is that is mapped.
+use Rattle.std.proofs.Common.{◌≡◌, ℕ, zero, suc, ◌+◌, ◌≤◌, Bool, true, false, cond, ◌&&◌, leb, refl, ap, ◌∙◌, ⊎_elim, arith}
+use Rattle.std.specs.List.{range_with_len, list_all, count_by}
+use Rattle.std.proofs.lemmas.Bool.{and_parts, and_from, cases_Bool, cases_eq, leb-true, false≢true}
+use Rattle.plain_model.specs.Machine.{Machine}
+use Rattle.boards.specs.Board.{Steps, Meaning, is_free, is_uncounted, exists, free_to, all_free, uncounted_to, Maps, mapped}
+use Rattle.boards.specs.Laws.{Laws}
+use Rattle.boards.specs.declared.station.Station.{Station}
+use Rattle.boards.specs.declared.station.Station.TheVariants.{Free, Uncounted, Counted, Ready}
+use Rattle.boards.proofs.Ranges.{list_all-last, count_by-last}
+
+pub free_is : {Op Answer : Type 0} (x : Station Op Answer) → is_free x ≡ true → x ≡ Free
+free_is Free e = refl
+free_is (Uncounted o) e = absurd (false≢true e)
+free_is (Counted o a) e = absurd (false≢true e)
+free_is (Ready o a) e = absurd (false≢true e)
+
+-- a station that is mapped by functions
+pub mapped_is : {Op Answer Op' Answer' : Type 0} {F : Op → Op' → Type 0} {G : Answer → Answer' → Type 0} (f : Op → Op') (g : Answer → Answer') →
+    ((o : Op) (o' : Op') → F o o' → o' ≡ f o) → ((a : Answer) (a' : Answer') → G a a' → a' ≡ g a) →
+    (x : Station Op Answer) (y : Station Op' Answer') → Maps F G x y → y ≡ mapped f g x
+mapped_is f g is_f is_g Free y m = m
+mapped_is f g is_f is_g (Uncounted o) y m = m.2 ∙ ap Uncounted (is_f o m.0 m.1)
+mapped_is f g is_f is_g (Counted o a) y m = m.4 ∙ ap (λ x. Counted x m.1) (is_f o m.0 m.2) ∙ ap (Counted (f o)) (is_g a m.1 m.3)
+mapped_is f g is_f is_g (Ready o a) y m = m.4 ∙ ap (λ x. Ready x m.1) (is_f o m.0 m.2) ∙ ap (Ready (f o)) (is_g a m.1 m.3)
+
+module _ {Model Plain Op Answer : Type 0} (means : Meaning Model Plain Op Answer) (m : Model) where
+  -- the same asked of the list of their numbers
+  pub all_free_list : (n : ℕ) → list_all (λ p. is_free (means.station m p)) (range_with_len 1 n) ≡ free_to means m n
+  all_free_list zero = refl
+  all_free_list (suc n) =
+      list_all-last (λ p. is_free (means.station m p)) 1 n (suc n) (omega arith) ∙ ap (λ b. is_free (means.station m (suc n)) && b) (all_free_list n)
+
+  pub uncounted_list : (n : ℕ) → count_by (λ p. is_uncounted (means.station m p)) (range_with_len 1 n) ≡ uncounted_to means m n
+  uncounted_list zero = refl
+  uncounted_list (suc n) =
+      count_by-last (λ p. is_uncounted (means.station m p)) 1 n (suc n) (omega arith) ∙ ap (λ k. k + cond (is_uncounted (means.station m (suc n))) 1 0) (uncounted_list n) ∙
+      one (is_uncounted (means.station m (suc n))) (uncounted_to means m n)
+    where
+      one : (b : Bool) (k : ℕ) → k + cond b 1 0 ≡ cond b (suc k) k
+      one true k = omega arith
+      one false k = omega arith
+
+  -- a station that exists is one of those numbered from 1
+  pub exists_within : (p : ℕ) → exists means m p ≡ true → (1 ≤ p) × (p ≤ means.stations m)
+  exists_within p x =
+      let b = and_parts (leb 1 p) (leb p (means.stations m)) x in
+      (leb-true 1 p b.0, leb-true p (means.stations m) b.1)
+
+  -- one station of those that are free is free
+  free_to_each : (n p : ℕ) → free_to means m n ≡ true → 1 ≤ p → p ≤ n → means.station m p ≡ Free
+  free_to_each zero p free some last = absurd (omega arith)
+  free_to_each (suc n) p free some last =
+      let b = and_parts (is_free (means.station m (suc n))) (free_to means m n) free in
+      ⊎_elim (λ same. ap (means.station m) same ∙ free_is (means.station m (suc n)) b.0)
+      (λ other. free_to_each n p b.1 some (omega arith)) (cases_eq p (suc n))
+
+  each_free_to : ((p : ℕ) → means.station m p ≡ Free) → (n : ℕ) → free_to means m n ≡ true
+  each_free_to free zero = refl
+  each_free_to free (suc n) = and_from _ _ (ap is_free (free (suc n))) (each_free_to free n)
+
+  pub all_free_each : ((p : ℕ) → means.station m p ≡ Free) → all_free means m ≡ true
+  all_free_each free = each_free_to free (means.stations m)
+
+-- where all stations of a sound board are free, so is every number
+pub each_free : {Model Plain Op Answer Item : Type 0} {plain : Machine Plain Op Answer Item} {steps : Steps Model Op Answer} {means : Meaning Model Plain Op Answer}
+    {sound : Model → Type 0} → Laws plain steps means sound → (m : Model) → sound m → all_free means m ≡ true → (p : ℕ) → means.station m p ≡ Free
+each_free {means = means} laws m ok free p =
+    ⊎_elim
+    (λ there. let b = exists_within means m p there in free_to_each means m (means.stations m) p free b.0 b.1)
+    (laws.missing_free m p ok) (cases_Bool (exists means m p))

@@ -1,5 +1,5 @@
 // Keys, which have a total order.
-ghost use Rattle.std.specs.Prelude.{◌≡◌, Bool};
+ghost use Rattle.std.specs.Prelude.{◌≡◌, not, ◌&&◌, Bool};
 ghost use Rattle.std.specs.declared.cmp.Ordering.{Ordering};
 ghost use Rattle.keys.specs.Order.{Total, compared};
 
@@ -14,6 +14,13 @@ pub trait Key: Copy + Ord {
         ensures { result ≡ before self.now other.now }
     {
         self.cmp(other).is_lt()
+    }
+
+    // Are the keys one and the same?
+    fn is_same(&self, other: &Self) -> bool
+        ensures { result ≡ (not (before self.now other.now) && not (before other.now self.now)) }
+    {
+        self.cmp(other).is_eq()
     }
 
     ghost total: { Total before };

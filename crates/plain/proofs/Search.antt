@@ -1,40 +1,77 @@
--- What a search from the front of a list finds: the place of a key, and the place where it belongs.
-use Rattle.std.proofs.Common.{◌≡◌, ℕ, zero, suc, ◌+◌, ◌<◌, Bool, true, false, List, [], ◌∷◌, length, get_or, take, refl, ap, ◌∙◌, add-one, arith}
-use Rattle.std.specs.List.{insert as inserted, remove as removed}
-use Rattle.std.proofs.lemmas.Bool.{or_parts, or_from, or_left, or_right, and_parts, and_from, cond-true, cond-false}
+-- Where a search from the front of a list stops: at the place of a key, and at the place where it belongs.
+use Rattle.std.proofs.Common.{◌≡◌, ℕ, suc, ◌+◌, ◌<◌, ◌≤◌, Bool, true, false, not, cond, List, [], ◌∷◌, length, Some, None, refl, sym, ap, ◌∙◌, subst, arith}
+use Rattle.std.specs.Prelude.{Option, nat_lt, is_some}
+use Rattle.std.specs.Option.{unwrap_or}
+use Rattle.std.proofs.lemmas.List.Sums.{prefix_len-le-length}
+use Rattle.std.specs.List.{insert as inserted, remove as removed, position, position_or_len}
+use Rattle.std.proofs.lemmas.Bool.{ltb-true}
+use Rattle.std.proofs.lemmas.Bool.Decides.{nat_tests}
 use Rattle.plain_model.specs.Nest.{same, has, insert, remove}
-use Rattle.plain.specs.Search.{all_before}
+use Rattle.plain.specs.Search.{Stands}
 
-module _ {K : Type 0} (before : K → K → Bool) (k d : K) where
-  -- a key that is not among the first i, and not at i, is not among the first i + 1
-  passed : (xs : List K) (i : ℕ) → i < length xs → has before k (take i xs) ≡ false → same before k (get_or xs i d) ≡ false → has before k (take (suc i) xs) ≡ false
-  passed [] i l h e = absurd (omega arith)
-  passed (x ∷ xs) zero l h e = or_from _ _ e refl
-  passed (x ∷ xs) (suc i) l h e = or_from _ _ (or_parts _ _ h).0 (passed xs i (omega arith) (or_parts _ _ h).1 e)
+one_more : (n : ℕ) → 1 + n ≡ suc n
+one_more n = omega arith
 
-  pub find_passes : (xs : List K) (i : ℕ) → i < length xs → has before k (take i xs) ≡ false → same before k (get_or xs i d) ≡ false → has before k (take (i + 1) xs) ≡ false
-  find_passes xs i l h e = rw add-one (passed xs i l h e)
+or_end : (p n : ℕ) → p ≤ n → p ≡ unwrap_or (cond (nat_lt p n) (Some p) None) n
+or_end p n most = split (nat_lt p n) refl
+  where
+    split : (b : Bool) → nat_lt p n ≡ b → p ≡ unwrap_or (cond b (Some p) None) n
+    split true e = refl
+    split false e = grind (arith, nat_tests)
 
-  pub find_stands : (xs : List K) (i : ℕ) → i < length xs → has before k (take i xs) ≡ false → same before k (get_or xs i d) ≡ true → (i < length xs) × (has before k xs ≡ true) × (remove before k xs ≡ removed xs i)
-  find_stands [] i l h e = absurd (omega arith)
-  find_stands (x ∷ xs) zero l h e = (l, or_left _ _ e, cond-true _ _ _ e)
-  find_stands (x ∷ xs) (suc i) l h e =
-      let r = find_stands xs i (omega arith) (or_parts _ _ h).1 e in
-      (l, or_right _ _ r.1, cond-false (same before k x) xs (x ∷ remove before k xs) (or_parts (same before k x) (has before k (take i xs)) h).0 ∙ ap (λ ys. x ∷ ys) r.2)
+module _ {K : Type 0} (before : K → K → Bool) (k : K) where
+  -- where a search for the key stops
+  abbrev stop : List K → ℕ
+  stop xs = position_or_len (same before k) xs
 
-  before_passed : (xs : List K) (i : ℕ) → i < length xs → all_before before k (take i xs) ≡ true → before (get_or xs i d) k ≡ true → all_before before k (take (suc i) xs) ≡ true
-  before_passed [] i l h e = absurd (omega arith)
-  before_passed (x ∷ xs) zero l h e = and_from _ _ e refl
-  before_passed (x ∷ xs) (suc i) l h e = and_from _ _ (and_parts _ _ h).0 (before_passed xs i (omega arith) (and_parts _ _ h).1 e)
+  abbrev Found : List K → Type 0
+  Found xs = (has before k xs ≡ true) × (remove before k xs ≡ removed xs (stop xs))
 
-  pub place_passes : (xs : List K) (i : ℕ) → i < length xs → all_before before k (take i xs) ≡ true → before (get_or xs i d) k ≡ true → all_before before k (take (i + 1) xs) ≡ true
-  place_passes xs i l h e = rw add-one (before_passed xs i l h e)
+  found_on : (x : K) (xs : List K) → (stop xs < length xs → Found xs) → (b : Bool) → same before k x ≡ b → stop (x ∷ xs) < suc (length xs) → Found (x ∷ xs)
+  found_on x xs ih true e h = rw e (refl, refl)
+  found_on x xs ih false e h =
+      let shorter : 1 + stop xs < suc (length xs) = subst (λ b. cond (not b) (1 + stop xs) 0 < suc (length xs)) e h in
+      let r = ih (omega arith) in
+      rw (e, one_more (stop xs)) (r.0, ap (λ ys. x ∷ ys) r.1)
 
-  pub place_belongs : (xs : List K) (i : ℕ) → i < length xs → all_before before k (take i xs) ≡ true → before (get_or xs i d) k ≡ false → insert before k xs ≡ inserted xs i k
-  place_belongs [] i l h e = absurd (omega arith)
-  place_belongs (x ∷ xs) zero l h e = cond-false _ _ _ e
-  place_belongs (x ∷ xs) (suc i) l h e = cond-true (before x k) (x ∷ insert before k xs) (k ∷ x ∷ xs) (and_parts (before x k) (all_before before k (take i xs)) h).0 ∙ ap (λ ys. x ∷ ys) (place_belongs xs i (omega arith) (and_parts _ _ h).1 e)
+  found : (xs : List K) → stop xs < length xs → Found xs
+  found [] h = absurd (omega arith)
+  found (x ∷ xs) h = found_on x xs (found xs) (same before k x) refl h
 
-  pub place_last : (xs : List K) → all_before before k (take (length xs) xs) ≡ true → insert before k xs ≡ inserted xs (length xs) k
-  place_last [] h = refl
-  place_last (x ∷ xs) h = cond-true (before x k) (x ∷ insert before k xs) (k ∷ x ∷ xs) (and_parts (before x k) (all_before before k (take (length xs) xs)) h).0 ∙ ap (λ ys. x ∷ ys) (place_last xs (and_parts _ _ h).1)
+  missed_on : (x : K) (xs : List K) → (length xs ≤ stop xs → has before k xs ≡ false) → (b : Bool) → same before k x ≡ b → suc (length xs) ≤ stop (x ∷ xs) → has before k (x ∷ xs) ≡ false
+  missed_on x xs ih true e h = absurd (let none : suc (length xs) ≤ 0 = subst (λ b. suc (length xs) ≤ cond (not b) (1 + stop xs) 0) e h in omega arith)
+  missed_on x xs ih false e h =
+      let shorter : suc (length xs) ≤ 1 + stop xs = subst (λ b. suc (length xs) ≤ cond (not b) (1 + stop xs) 0) e h in
+      rw e (ih (omega arith))
+
+  missed : (xs : List K) → length xs ≤ stop xs → has before k xs ≡ false
+  missed [] h = refl
+  missed (x ∷ xs) h = missed_on x xs (missed xs) (same before k x) refl h
+
+  -- the place of the key: the first key that is the same, if it is in the list
+  pub stands : (xs : List K) → Stands before k xs (position (same before k) xs)
+  stands xs = split (nat_lt (stop xs) (length xs)) refl
+    where
+      split : (b : Bool) → nat_lt (stop xs) (length xs) ≡ b → Stands before k xs (cond b (Some (stop xs)) None)
+      split true e = let within = ltb-true (stop xs) (length xs) e in let f = found xs within in (within, f.0, f.1)
+      split false e = missed xs (grind (arith, nat_tests))
+
+  pub is_there : (xs : List K) → is_some (position (same before k) xs) ≡ has before k xs
+  is_there xs = told (position (same before k) xs) (stands xs)
+    where
+      told : (r : Option ℕ) → Stands before k xs r → is_some r ≡ has before k xs
+      told None h = sym h
+      told (Some i) h = sym h.1
+
+  belongs_on : (x : K) (xs : List K) → insert before k xs ≡ inserted xs (position_or_len (λ y. not (before y k)) xs) k → (b : Bool) → before x k ≡ b →
+      insert before k (x ∷ xs) ≡ inserted (x ∷ xs) (position_or_len (λ y. not (before y k)) (x ∷ xs)) k
+  belongs_on x xs ih true e = rw (e, one_more (position_or_len (λ y. not (before y k)) xs)) (ap (λ ys. x ∷ ys) ih)
+  belongs_on x xs ih false e = rw e refl
+
+  belongs_at : (xs : List K) → insert before k xs ≡ inserted xs (position_or_len (λ x. not (before x k)) xs) k
+  belongs_at [] = refl
+  belongs_at (x ∷ xs) = belongs_on x xs (belongs_at xs) (before x k) refl
+
+  -- the key belongs at the first key that is not before it, or else at the end
+  pub belongs : (xs : List K) → insert before k xs ≡ inserted xs (unwrap_or (position (λ x. not (before x k)) xs) (length xs)) k
+  belongs xs = belongs_at xs ∙ ap (λ i. inserted xs i k) (or_end (position_or_len (λ x. not (before x k)) xs) (length xs) (prefix_len-le-length (λ x. not (not (before x k))) xs))

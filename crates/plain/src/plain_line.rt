@@ -8,7 +8,8 @@ use keys::refusal::Refusal;
 use plain_model::line_op::{LineAnswer, LineOp};
 use std::alloc::Global;
 
-// A queue of elements: the first of the vector is the next to be taken.
+// A queue of elements: the first of the vector is the next to be taken. It is no ring of elements, since `elements` hands
+// out one slice.
 #[derive(Drop)]
 pub struct PlainLine<E> {
     elements: Vec<E>,
@@ -69,10 +70,7 @@ impl<E: Copy> PlainMachine for PlainLine<E> {
     fn apply(&mut self, op: &LineOp<E>) -> Result<LineAnswer<E>, Refusal> {
         match *op {
             LineOp::Put(element) => self.put(element),
-            LineOp::Take => match self.take() {
-                Some(element) => Ok(LineAnswer::Took(element)),
-                None => Ok(LineAnswer::Empty),
-            },
+            LineOp::Take => Ok(self.take().map_or(LineAnswer::Empty, LineAnswer::Took)),
         }
     }
 }

@@ -1,8 +1,7 @@
 // The plain nest.
-ghost use Rattle.std.specs.Prelude.{◌≡◌, List, []};
+ghost use Rattle.std.specs.Prelude.{◌≡◌, not, List, [], position};
 ghost use Rattle.plain_model.specs.Nest.{nest, grows as nest_grows, same as same_key, has, Ascending};
 ghost use Rattle.plain_model.specs.Machine.{Applied};
-ghost use Rattle.plain.specs.Search.{Stands, Belongs};
 
 use crate::plain_machine::PlainMachine;
 use keys::key::Key;
@@ -14,13 +13,6 @@ use std::alloc::Global;
 #[derive(Drop)]
 pub struct PlainNest<K> {
     keys: Vec<K>,
-}
-
-// Is neither key before the other?
-fn is_same<K: Key>(a: &K, b: &K) -> bool
-    ensures { result ≡ same_key K.before a.now b.now }
-{
-    !a.is_before(b) && !b.is_before(a)
 }
 
 impl<K: Key> PlainNest<K> {
@@ -42,26 +34,16 @@ impl<K: Key> PlainNest<K> {
 
     // Where the key stands, if it is in the nest.
     fn find(&self, key: &K) -> Option<usize>
-        ensures { Stands K.before key.now self.now.keys.items result }
+        ensures { result ≡ position (same_key K.before key.now) self.now.keys.items }
     {
-        for (place, other) in self.keys.iter().enumerate() {
-            if is_same(key, other) {
-                return Some(place);
-            }
-        }
-        None
+        self.keys.iter().position(|other| key.is_same(other))
     }
 
-    // Where the key belongs: at the first key that is not before it.
-    fn place(&self, key: &K) -> usize
-        ensures { Belongs K.before key.now self.now.keys.items result }
+    // The first key that is not before this one: where it belongs, if not at the end.
+    fn place(&self, key: &K) -> Option<usize>
+        ensures { result ≡ position (λ other. not (K.before other key.now)) self.now.keys.items }
     {
-        for (place, other) in self.keys.iter().enumerate() {
-            if !other.is_before(key) {
-                return place;
-            }
-        }
-        self.keys.len()
+        self.keys.iter().position(|other| !other.is_before(key))
     }
 
     // Is the key in the nest?
@@ -78,7 +60,7 @@ impl<K: Key> PlainNest<K> {
         if self.holds(&key) {
             return Ok(NestAnswer::There);
         }
-        let place = self.place(&key);
+        let place = self.place(&key).unwrap_or(self.keys.len());
         self.keys.insert(place, key)?;
         Ok(NestAnswer::Added)
     }

@@ -27,7 +27,8 @@ pub struct WaistSize {
     ghost fits: { wearable waist leg ≡ true },
 }
 
-// A size label: either a letter size or a waist with a leg. Letter sizes come before all waists, as the cases stand.
+// A size label: either a letter size or a waist with a leg; neither is an error, so this is no Result. Letter sizes come
+// before all waists, as the cases stand.
 #[derive(Clone, Copy, PartialEq, Eq, PartialOrd, Ord, Debug)]
 pub enum SizeLabel {
     Letter(LetterSize),

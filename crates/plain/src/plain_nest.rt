@@ -9,7 +9,8 @@ use keys::refusal::Refusal;
 use plain_model::nest_op::{NestAnswer, NestOp};
 use std::alloc::Global;
 
-// An ordered set of keys: they stand in the vector in ascending order, none twice.
+// An ordered set of keys: they stand in the vector in ascending order, none twice. It is no set of std, since `keys` hands
+// out one slice.
 #[derive(Drop)]
 pub struct PlainNest<K> {
     keys: Vec<K>,

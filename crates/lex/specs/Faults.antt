@@ -12,15 +12,15 @@ fault_number OtherRun = 18
 fault_number NoForm = 19
 
 abbrev pub fault_at : FaultKind → Place → Fault
-fault_at kind p = record { kind = kind; line = p.line; byte = p.byte }
+fault_at kind p = record { kind = kind; place = p }
 
 -- a script that is too long is at fault as a whole
 abbrev pub too_long : Fault
-too_long = record { kind = TooLong; line = 1; byte = 1 }
+too_long = fault_at TooLong (record { line = 1; byte = 1 })
 
 -- a line that is no form is at fault as a whole
 abbrev pub no_form : ℕ → Fault
-no_form line = record { kind = NoForm; line = line; byte = 1 }
+no_form line = fault_at NoForm (record { line = line; byte = 1 })
 
 abbrev pub fault_text : Fault → List ℕ
-fault_text f = codes "(fault " ++ (decimal (fault_number f.kind) ++ (codes " " ++ (decimal f.line ++ (codes " " ++ (decimal f.byte ++ codes ")")))))
+fault_text f = codes "(fault " ++ (decimal (fault_number f.kind) ++ (codes " " ++ (decimal f.place.line ++ (codes " " ++ (decimal f.place.byte ++ codes ")")))))

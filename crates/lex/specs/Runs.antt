@@ -1,6 +1,7 @@
 -- Runs of letters and digits: which are words and which are numbers.
-use Rattle.std.specs.Prelude.{ℕ, ◌+◌, ◌-◌, ◌*◌, Bool, true, cond, not, ◌&&◌, ◌||◌, List, [], ◌∷◌, length, Ok, Err, Result, ◌==◌, nat_lt}
+use Rattle.std.specs.Prelude.{ℕ, ◌+◌, ◌-◌, ◌*◌, Bool, cond, not, ◌&&◌, ◌||◌, List, [], ◌∷◌, length, Ok, Err, Result, ◌==◌, nat_lt}
 use Rattle.std.specs.Char.{is_ascii_digit, is_ascii_alphabetic}
+use Rattle.std.specs.List.{fold, list_all}
 use Rattle.lex.specs.declared.token.Place.{Place}
 use Rattle.lex.specs.declared.token.Token.{Token}
 use Rattle.lex.specs.declared.token.Token.TheVariants.{Open, Close, Word, Number}
@@ -22,8 +23,7 @@ lexeme (Word bytes p) = word bytes.now p
 lexeme (Number bytes value p) = number bytes.now value p
 
 abbrev pub all_digits : List ℕ → Bool
-all_digits [] = true
-all_digits (b ∷ bs) = is_ascii_digit b && all_digits bs
+all_digits = list_all is_ascii_digit
 
 -- a word, by its first byte and the rest: it starts with a letter and has 1 to 8 bytes
 abbrev pub is_word : ℕ → List ℕ → Bool
@@ -35,8 +35,7 @@ is_number first rest = is_ascii_digit first && (all_digits rest && (nat_lt (leng
 
 -- the number that digits write in base ten, after those that write n
 abbrev pub value_from : ℕ → List ℕ → ℕ
-value_from n [] = n
-value_from n (b ∷ bs) = value_from (n * 10 + (b - 48)) bs
+value_from = fold (λ m b. m * 10 + (b - 48))
 
 abbrev pub value_of : List ℕ → ℕ
 value_of bs = value_from 0 bs

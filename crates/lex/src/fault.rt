@@ -1,9 +1,10 @@
 // What ends the reading of a script.
 ghost use Rattle.std.specs.Prelude.{◌≡◌, Some};
-ghost use Rattle.lex.specs.Faults.{fault_number, fault_text};
+ghost use Rattle.lex.specs.Faults.{fault_number, fault_text, too_long, no_form};
 ghost use Rattle.lex.specs.declared.fault.Stop.TheVariants.{Faulty, NoMemory};
 ghost use Rattle.std.proofs.Common.{rules};
 
+use crate::token::Place;
 use keys::text::Text;
 use std::alloc::{AllocError, AllocFailed};
 use std::fmt;
@@ -21,12 +22,11 @@ pub enum FaultKind {
     NoForm,
 }
 
-// A fault with its place: the line in the script and the byte in that line, both counted from 1.
+// A fault with its place.
 #[derive(Clone, Copy, PartialEq, Eq, Debug)]
 pub struct Fault {
     pub kind: FaultKind,
-    pub line: usize,
-    pub byte: usize,
+    pub place: Place,
 }
 
 // Why a line was not read: it is at fault, or memory is lacking.
@@ -50,6 +50,28 @@ impl FaultKind {
     }
 }
 
+impl Fault {
+    // The fault of a script that is too long, which is at fault as a whole.
+    pub fn too_long() -> Fault
+        ensures { result ≡ too_long }
+    {
+        Fault {
+            kind: FaultKind::TooLong,
+            place: Place { line: 1, byte: 1 },
+        }
+    }
+
+    // The fault of a line that is no form, or that may not stand where it does.
+    pub fn no_form(line: usize) -> Fault
+        ensures { result ≡ no_form line }
+    {
+        Fault {
+            kind: FaultKind::NoForm,
+            place: Place { line, byte: 1 },
+        }
+    }
+}
+
 impl fmt::Display for Fault {
     ghost output = { λ f. Some (fault_text f) };
 
@@ -58,8 +80,8 @@ impl fmt::Display for Fault {
             f,
             "(fault {} {} {})",
             self.kind.number(),
-            self.line,
-            self.byte
+            self.place.line,
+            self.place.byte
         )
     }
 }

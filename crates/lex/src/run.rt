@@ -11,25 +11,16 @@ use crate::token::{Place, Token};
 pub fn run_length(bytes: &[u8]) -> usize
     ensures { result ≡ prefix_len is_ascii_alphanumeric bytes.now }
 {
-    let mut length = 0;
-    for byte in bytes {
-        if !byte.is_ascii_alphanumeric() {
-            return length;
-        }
-        length += 1;
-    }
-    length
+    bytes
+        .iter()
+        .take_while(|byte| byte.is_ascii_alphanumeric())
+        .count()
 }
 
 fn all_digits(bytes: &[u8]) -> bool
     ensures { result ≡ all_digits bytes.now }
 {
-    for byte in bytes {
-        if !byte.is_ascii_digit() {
-            return false;
-        }
-    }
-    true
+    bytes.iter().all(|byte| byte.is_ascii_digit())
 }
 
 fn is_word(first: u8, rest: &[u8]) -> bool
@@ -52,6 +43,7 @@ fn value(digits: &[u8]) -> u32
     requires { length digits.now ≤ 5 }
     ensures { result ≡ value_of digits.now }
 {
+    // a loop: in a `fold` it stayed open that the product and the sum fit, which rests on how many digits came before
     let mut value = 0;
     for digit in digits {
         value = value * 10 + u32::from(digit.saturating_sub(b'0'));
@@ -65,8 +57,7 @@ pub fn run_token<'s>(run: &'s [u8], place: Place) -> Result<Token<'s>, Fault>
 {
     let fault = Fault {
         kind: FaultKind::OtherRun,
-        line: place.line,
-        byte: place.byte,
+        place,
     };
     match run {
         [] => Err(fault),

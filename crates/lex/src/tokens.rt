@@ -3,6 +3,7 @@ ghost use Rattle.std.specs.Prelude.{◌≡◌, ◌+◌, ◌-◌, ◌<◌, ◌≤
 ghost use Rattle.lex.specs.Tokens.{part_lexeme, read_part, placed, extent, tokens_of, Reads};
 
 use crate::fault::{Fault, FaultKind, Stop};
+use crate::line::ScriptLine;
 use crate::run::{run_length, run_token};
 use crate::token::{Place, Token};
 use std::alloc::Global;
@@ -18,8 +19,7 @@ fn part_token<'s>(part: &'s [u8], place: Place) -> Result<Option<Token<'s>>, Fau
         [first, ..] if first.is_ascii_alphanumeric() => Ok(Some(run_token(part, place)?)),
         _ => Err(Fault {
             kind: FaultKind::OtherByte,
-            line: place.line,
-            byte: place.byte,
+            place,
         }),
     }
 }
@@ -35,25 +35,14 @@ fn extent(first: u8, after: &[u8]) -> usize
     }
 }
 
-// Where the bytes that are left of a line begin.
-fn place_of(number: usize, line: &[u8], rest: &[u8]) -> Place
-    requires { (length rest.now ≤ length line.now) × (0 < length rest.now) }
-    ensures { result ≡ placed number (length line.now - length rest.now + 1) }
-{
-    Place {
-        line: number,
-        byte: line.len() - rest.len() + 1,
-    }
-}
-
 // The tokens of a line of the script, or its leftmost byte or run that is none.
-pub fn tokens<'s>(heap: Global, line: &'s [u8], number: usize) -> Result<Vec<Token<'s>>, Stop>
-    ensures { Reads result (tokens_of number line.now) }
+pub fn tokens<'s>(heap: Global, line: ScriptLine<'s>) -> Result<Vec<Token<'s>>, Stop>
+    ensures { Reads result (tokens_of line.entry.number line.entry.bytes.now) }
 {
     let mut found = Vec::new(heap);
-    let mut rest = line;
+    let mut rest = line.bytes;
     while let [first, after @ ..] = rest {
-        let place = place_of(number, line, rest);
+        let place = line.place_of(rest);
         let (part, next) = rest.split_at(extent(*first, after) + 1);
         if let Some(token) = part_token(part, place)? {
             found.push(token)?;

@@ -23,8 +23,8 @@ returns-in_err-token c =
     let parts = c.split_at.ensures in
     let p = err_from_is_err_and c.from_residual.result c.from_residual.ensures.1 in
     rw (p.1, p.2)
-    (part_fault c.args.number (length c.args.line.now - length c.loop-rest.rest.now + 1) c.extent.result c.loop-rest.rest.now c.split_at.result.0.now c.split_at.result.1.now some c.extent.ensures parts.front parts.back c.place_of-place.result c.place_of-place.ensures
-    (vec_items c.loop-rest.found) (vec_items c.loop-rest.found) (tokens_of c.args.number c.args.line.now) c.loop-rest.invariant.1 c.in_err-token.field-0.0
+    (part_fault c.args.line.number (length c.args.line.bytes.now - length c.loop-rest.rest.now + 1) c.extent.result c.loop-rest.rest.now c.split_at.result.0.now c.split_at.result.1.now some c.extent.ensures parts.front parts.back c.place_of-place.result c.place_of-place.ensures
+    (vec_items c.loop-rest.found) (vec_items c.loop-rest.found) (tokens_of c.args.line.number c.args.line.bytes.now) c.loop-rest.invariant.1 c.in_err-token.field-0.0
     c.in_err-token.ensures)
 
 pub loop-rest-preserved-in_ok-push : goal.loop-rest-preserved-in_ok-push
@@ -33,11 +33,11 @@ loop-rest-preserved-in_ok-push c =
     let some : 0 < length c.loop-rest.rest.now = omega arith in
     let parts = c.split_at.ensures in
     let n : length c.split_at.result.1.now + (c.extent.result + 1) ≡ length c.loop-rest.rest.now = parts.back_len in
-    let here : length c.args.line.now - length c.loop-rest.rest.now + 1 + 1 + c.extent.result ≡ length c.args.line.now - length c.split_at.result.1.now + 1 = omega arith in
-    let P : ℕ → Type 0 = λ i. before (map lexeme (vec_items c.push.new.self)) (lexed c.args.number i 0 c.split_at.result.1.now) ≡ tokens_of c.args.number c.args.line.now in (
+    let here : length c.args.line.bytes.now - length c.loop-rest.rest.now + 1 + 1 + c.extent.result ≡ length c.args.line.bytes.now - length c.split_at.result.1.now + 1 = omega arith in
+    let P : ℕ → Type 0 = λ i. before (map lexeme (vec_items c.push.new.self)) (lexed c.args.line.number i 0 c.split_at.result.1.now) ≡ tokens_of c.args.line.number c.args.line.bytes.now in (
       omega arith,
-      subst P here (part_token c.args.number (length c.args.line.now - length c.loop-rest.rest.now + 1) c.extent.result c.loop-rest.rest.now c.split_at.result.0.now c.split_at.result.1.now some c.extent.ensures parts.front parts.back c.place_of-place.result c.place_of-place.ensures
-          (vec_items c.loop-rest.found) (vec_items c.push.new.self) (tokens_of c.args.number c.args.line.now) c.loop-rest.invariant.1 c.in-Some.token pushed (ap (λ o. read_part (Ok o)) (sym c.in-Some.is) ∙ c.in_ok-token.ensures)),
+      subst P here (part_token c.args.line.number (length c.args.line.bytes.now - length c.loop-rest.rest.now + 1) c.extent.result c.loop-rest.rest.now c.split_at.result.0.now c.split_at.result.1.now some c.extent.ensures parts.front parts.back c.place_of-place.result c.place_of-place.ensures
+          (vec_items c.loop-rest.found) (vec_items c.push.new.self) (tokens_of c.args.line.number c.args.line.bytes.now) c.loop-rest.invariant.1 c.in-Some.token pushed (ap (λ o. read_part (Ok o)) (sym c.in-Some.is) ∙ c.in_ok-token.ensures)),
     )
 
 pub returns : goal.returns

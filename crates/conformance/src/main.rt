@@ -5,35 +5,27 @@ use script::run::run;
 use std::alloc::Global;
 use std::fs;
 
-// Does the script of that name print its report, byte for byte?
+// Does the script of that name print its report, byte for byte? One that does not is named.
 fn agrees(rt: &HostRuntime, name: &str) -> anyhow::Result<bool> {
     let heap: Global = rt.alloc();
-    let script_path = format!(in heap; "{name}.script")?;
-    let report_path = format!(in heap; "{name}.report")?;
-    let script = fs::read(rt, &script_path)?;
-    let report = fs::read(rt, &report_path)?;
+    let script = fs::read(rt, &format!(in heap; "{name}.script")?)?;
+    let report = fs::read(rt, &format!(in heap; "{name}.report")?)?;
     let transcript = run(heap, &script)?;
-    Ok(transcript.text.as_bytes() == report.as_slice())
-}
-
-// Compares every script that the index names, a line each, and counts those that agree and those that differ.
-fn compare_all(rt: &HostRuntime, index: &str) -> anyhow::Result<(usize, usize)> {
-    let mut agreed: usize = 0;
-    let mut differed: usize = 0;
-    for name in index.lines() {
-        if agrees(rt, name)? {
-            agreed = agreed.saturating_add(1);
-        } else {
-            differed = differed.saturating_add(1);
-            println!(rt; "{name} differs")?;
-        }
+    let agrees = transcript.text.as_bytes() == report.as_slice();
+    if !agrees {
+        println!(rt; "{name} differs")?;
     }
-    Ok((agreed, differed))
+    Ok(agrees)
 }
 
 fn main(rt: HostRuntime) -> anyhow::Result<()> {
     let index = fs::read_to_string(&rt, "index.txt")?;
-    let (agreed, differed) = compare_all(&rt, index.as_str())?;
+    let verdicts: Vec<bool> = index
+        .lines()
+        .map(|name| agrees(&rt, name))
+        .try_collect(rt.alloc())?;
+    let agreed = verdicts.iter().filter(|agrees| **agrees).count();
+    let differed = verdicts.iter().filter(|agrees| !**agrees).count();
     println!(rt; "{agreed} scripts agree, {differed} differ")?;
     Ok(())
 }

@@ -28,32 +28,18 @@ A call that is sent back prints (refused NUMBER). A fault in the script prints (
 The exit status is 0 where the run ends with its report, and 1 where it does not.";
 
 // One byte more than a script may have, so that one that is too long is seen to be.
-const MOST_READ: usize = 32769;
-
-// Reads a part of a script. Says whether there was any.
-fn read_part<R: Read>(source: &mut R, script: &mut Vec<u8>) -> io::Result<bool> {
-    let mut part = [0u8; 4096];
-    let count = source.read(&mut part)?;
-    let (read, _) = part.split_at(count);
-    script.extend_from_slice(read)?;
-    Ok(count > 0)
-}
+const MOST_READ: u64 = 32769;
 
 // Reads a script to its end, or as far as it shows that the script is too long.
-fn read_script<R: Read>(heap: Global, source: &mut R) -> io::Result<Vec<u8>> {
+fn read_script(heap: Global, source: impl Read + Drop) -> io::Result<Vec<u8>> {
     let mut script = Vec::new(heap);
-    for _ in 0..MOST_READ {
-        if script.len() >= MOST_READ || !read_part(source, &mut script)? {
-            break;
-        }
-    }
+    source.take(MOST_READ).read_to_end(&mut script)?;
     Ok(script)
 }
 
 // Reads the script of a file.
 fn read_file(rt: &HostRuntime, path: &str) -> io::Result<Vec<u8>> {
-    let mut file = fs::open(rt, path)?;
-    read_script(rt.alloc(), &mut file)
+    read_script(rt.alloc(), fs::open(rt, path)?)
 }
 
 // What is wrong with a line of a script, and what may stand there.
@@ -105,23 +91,16 @@ fn run_and_print(rt: &HostRuntime, script: &[u8]) -> anyhow::Result<()> {
     explain(rt, transcript.ending)
 }
 
-// Runs the script of a file.
-fn run_file(rt: &HostRuntime, path: &str) -> anyhow::Result<()> {
-    match read_file(rt, path) {
+// Runs the script that was read from there, or says that it cannot be read.
+fn run_read(
+    rt: &HostRuntime,
+    source: &str,
+    script: io::Result<Vec<u8>>,
+) -> anyhow::Result<()> {
+    match script {
         Ok(script) => run_and_print(rt, &script),
         Err(error) => {
-            eprintln!(rt; "gaqtseni: {path} cannot be read: {error}")?;
-            Err(error.into())
-        }
-    }
-}
-
-// Runs the script that stands on standard input.
-fn run_input(rt: &HostRuntime) -> anyhow::Result<()> {
-    match read_script(rt.alloc(), &mut rt.stdin()) {
-        Ok(script) => run_and_print(rt, &script),
-        Err(error) => {
-            eprintln!(rt; "gaqtseni: standard input cannot be read: {error}")?;
+            eprintln!(rt; "gaqtseni: {source} cannot be read: {error}")?;
             Err(error.into())
         }
     }
@@ -131,7 +110,8 @@ fn main(rt: HostRuntime) -> anyhow::Result<()> {
     let mut words = env::args(&rt)?;
     let _program = words.next();
     let Some(first) = words.next() else {
-        return run_input(&rt);
+        let script = read_script(rt.alloc(), rt.stdin());
+        return run_read(&rt, "standard input", script);
     };
     if words.next().is_some() {
         eprintln!(rt;
@@ -143,5 +123,6 @@ fn main(rt: HostRuntime) -> anyhow::Result<()> {
         println!(rt; "{HELP}")?;
         return Ok(());
     }
-    run_file(&rt, first.as_str())
+    let path = first.as_str();
+    run_read(&rt, path, read_file(&rt, path))
 }

@@ -1,5 +1,5 @@
 -- The floor of a shop: its board is the pair of a nest and a line.
-use Rattle.std.specs.Prelude.{◌≡◌, ℕ, ◌+◌, Bool, false, not, ◌&&◌, List, replicate, Some, None, Option, nat_le}
+use Rattle.std.specs.Prelude.{◌≡◌, ℕ, ◌+◌, ◌≤◌, Bool, false, not, ◌&&◌, List, replicate, Some, None, Option, nat_le}
 use Rattle.keys.specs.declared.refusal.Refusal.{Refusal}
 use Rattle.keys.specs.declared.refusal.Refusal.TheVariants.{StationCount, LedgerLimit, NestSize, LineSize, NoMemory}
 use Rattle.plain_model.specs.Machine.{Machine}
@@ -49,6 +49,13 @@ shop_refusal stations limit nest-nodes line-nodes =
     (refuse_if (not (nat_le 1 limit && nat_le limit 1024)) LedgerLimit
     (refuse_if (not (nat_le 1 nest-nodes && nat_le nest-nodes 512)) NestSize
     (refuse_if (not (nat_le 1 line-nodes && nat_le line-nodes 512)) LineSize None)))
+
+-- the ranges of these sizes
+pub record InRange (stations limit nest-nodes line-nodes : ℕ) : Type 0 where
+  pub stations_fit : (1 ≤ stations) × (stations ≤ 16)
+  pub limit_fits : (1 ≤ limit) × (limit ≤ 1024)
+  pub nest_fits : (1 ≤ nest-nodes) × (nest-nodes ≤ 512)
+  pub line_fits : (1 ≤ line-nodes) × (line-nodes ≤ 512)
 
 -- where nothing else stands in the way, memory is lacking
 abbrev pub or_memory : Option Refusal → Refusal

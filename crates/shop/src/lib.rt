@@ -1,6 +1,7 @@
-// The floor of a shop: a nest and a line side by side, with a ledger, made from four numbers.
+// The floor of a shop: a nest and a line side by side, with a ledger, made from four sizes.
 #![tactic(auto)]
 
-mod making;
+pub mod making;
 pub mod opening;
-pub mod tables;
+pub mod sizes;
+mod tables;

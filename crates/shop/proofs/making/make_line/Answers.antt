@@ -1,20 +1,16 @@
--- What is handed to the making passes its check, and what is made is handed on.
-use Rattle.std.proofs.Common.{◌≡◌, ◌+◌, length, vec_len, ap, ◌∙◌}
-use lib.ListN.{length-replicate}
-use Rattle.line_model.specs.Fresh.{fresh}
-use Rattle.shop.proofs.Checks.{line_fine}
+-- Numbers in range and tables of the lengths that are needed pass the check of a line.
+use Rattle.std.proofs.Common.{◌≡◌, ℕ, ◌+◌, ◌≤◌, ap, ◌∙◌, arith}
+use Rattle.std.proofs.lemmas.Bool.Decides.{nat_tests}
+use Rattle.line_model.specs.Fresh.{checked, fine, fresh}
 use Rattle.shop.proofs.making.make_line.Goals as goal
+
+line_fine : (s n a b : ℕ) → 1 ≤ s → s ≤ 16 → 1 ≤ n → n ≤ 512 → a ≡ n + 1 → b ≡ s → checked s n a b ≡ fine
+line_fine s n a b h i j k e f = grind (arith, nat_tests)
 
 pub new-requires : goal.new-requires
 new-requires g c =
-    let nodes : vec_len c.in_ok-node_table.node_table ≡ c.args.nodes + 1 = c.in_ok-node_table.node_table.ok.0 ∙ ap length c.in_ok-node_table.ensures ∙ length-replicate _ _ in
-    let stations : vec_len c.in_ok-station_table.station_table ≡ c.args.stations = c.in_ok-station_table.station_table.ok.0 ∙ ap length c.in_ok-station_table.ensures ∙ length-replicate _ _ in
-    line_fine c.args.stations c.args.nodes _ _ c.requires.0 c.requires.1 c.requires.2 c.requires.3 nodes stations
+    line_fine _ _ _ _ c.requires.0 c.requires.1 c.requires.2 c.requires.3 c.in_ok-node_table.ensures.len c.in_ok-station_table.ensures.len
 
-pub returns : goal.returns
-returns g c = record {
-  is = c.new.ensures.made ∙ ap (λ ns. fresh c.args.stations c.args.nodes ns) c.in_ok-node_table.ensures;
-  sound = c.new.ensures.sound;
-  fresh = c.new.ensures.unused;
-  lacking = tt;
-}
+pub returns-clause-is : goal.returns-clause-is
+returns-clause-is g c =
+    c.new.ensures.made ∙ ap (λ ns. fresh c.args.stations c.args.nodes ns) c.in_ok-node_table.ensures.items

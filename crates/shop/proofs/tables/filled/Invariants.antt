@@ -1,6 +1,0 @@
--- So many copies are in the table.
-use Rattle.std.proofs.Common.{◌≡◌, replicate, vec_items}
-use Rattle.shop.proofs.tables.filled.Given as goal
-
-abbrev pub invariant-loop-i : goal.invariant-loop-i
-invariant-loop-i g l = vec_items l.table ≡ replicate l.i l.value

@@ -5,26 +5,17 @@ ghost use Rattle.script_model.specs.Report.{list_text};
 use crate::lists::put_list;
 use boards::board::Board;
 use keys::text::Text;
-use shop::tables::filled;
 use std::alloc::{AllocError, Global};
 
 // The items of a board's contents, in their order.
 fn listing<B: Board>(heap: Global, board: &B) -> Result<Vec<B::Item>, AllocError>
     ensures { IfOk result (λ v. v.items ≡ B.plain.listed (B.means.contents (B.model board.now))) }
 {
-    let count = board.items();
-    // no memory holds so many items
-    if count == usize::MAX {
-        return Err(AllocError);
+    let mut items = Vec::new(heap);
+    while let Some(item) = board.item(items.len()) {
+        items.push(item)?;
     }
-    match board.item(0) {
-        None => Ok(Vec::new(heap)),
-        Some(first) => {
-            let mut items = filled(heap, first, count)?;
-            board.show(&mut items);
-            Ok(items)
-        }
-    }
+    Ok(items)
 }
 
 // Prints a line with a bracket in which the items of a board's contents follow a name.
@@ -39,6 +30,5 @@ where
     ensures { OnOk result (string_bytes out.new ≡ string_bytes out.old ++ list_text B.Item.Text.bytes name.now (B.plain.listed (B.means.contents (B.model board.now)))) }
 {
     let items = listing(heap, board)?;
-    put_list(out, name, &items)?;
-    Ok(())
+    put_list(out, name, &items)
 }

@@ -39,10 +39,8 @@ pub fn put_entries<O: Text, R: Text>(
 ) -> Result<(), AllocError>
     ensures { OnOk result (string_bytes out.new ≡ string_bytes out.old ++ joined (on_line (entry_text O.Text.bytes R.Text.bytes)) lines.now) }
 {
-    let mut left = lines;
-    while let [first, rest @ ..] = left {
-        put_entry(out, first)?;
-        left = rest;
+    for line in lines {
+        put_entry(out, line)?;
     }
     Ok(())
 }

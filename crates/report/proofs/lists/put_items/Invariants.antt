@@ -1,8 +1,0 @@
-use Rattle.std.proofs.Common.{◌≡◌, ◌++◌, drop, string_bytes}
-use Rattle.script_model.specs.Report.{joined, after_space}
-use Rattle.report.proofs.lists.put_items.Given as goal
-
-abbrev pub invariant-loop-item : goal.invariant-loop-item
-invariant-loop-item g l =
-    string_bytes l.out ++ joined (after_space g.T.Text.bytes) (drop l.item-index l.items)
-    ≡ string_bytes l.initial.out ++ joined (after_space g.T.Text.bytes) l.items

@@ -5,7 +5,6 @@
 use anyhow::anyhow;
 use boards::board::Board;
 use boards::outcome::Outcome;
-use floor::OpenFloor;
 use keys::cut_ticket::CutTicket;
 use keys::key::Key;
 use keys::piece_code::PieceCode;
@@ -16,65 +15,30 @@ use keys::text::Text;
 use plain_model::line_op::{LineAnswer, LineOp};
 use plain_model::nest_op::{NestAnswer, NestOp};
 use plain_model::side::Side;
-use shop::opening::{ShopBoard, ShopLine, open_shop};
+use shop::opening::{Shop, open_shop};
+use shop::sizes::Sizes;
 
-// An element of a line that names a key of the nest.
-trait Named {
-    type Key;
+// The sizes of each of the two shops.
+const SIZES: Sizes = Sizes {
+    stations: 3,
+    limit: 64,
+    nest_nodes: 8,
+    line_nodes: 8,
+};
 
-    fn key(&self) -> Self::Key;
-}
-
-impl Named for CutTicket {
-    type Key = SizeLabel;
-
-    fn key(&self) -> SizeLabel {
-        self.size
-    }
-}
-
-impl Named for PlotOrder {
-    type Key = PieceCode;
-
-    fn key(&self) -> PieceCode {
-        self.piece
-    }
-}
-
-// A refusal as an error of the program.
-fn failed(refusal: Refusal) -> anyhow::Error {
-    match refusal {
-        Refusal::NoMemory => anyhow!("memory is lacking"),
-        Refusal::OutOfRange => anyhow!("a number is out of its range"),
-        _ => anyhow!("a call was sent back"),
-    }
-}
-
-fn checked<T>(res: Result<T, Refusal>) -> anyhow::Result<T> {
-    match res {
-        Ok(value) => Ok(value),
-        Err(refusal) => Err(failed(refusal)),
-    }
-}
-
-// A floor with its ledger, as a host holds them.
-#[derive(Drop)]
-struct Shop<K: Key, E: Copy>
-where
-    ShopBoard<K, E>: Board,
-{
-    floor: OpenFloor<ShopBoard<K, E>>,
-    ledger: Vec<ShopLine<K, E>>,
+// What became of an element that was taken.
+#[derive(Clone, Copy, PartialEq, Eq)]
+enum Fate {
+    Spread,
+    SetAside,
 }
 
 // Touches the station, if it waits. Says whether it still waits.
-fn advance<K: Key, E: Copy>(shop: &mut Shop<K, E>, station: usize) -> anyhow::Result<bool> {
+fn advance<K: Key, E: Copy>(shop: &mut Shop<K, E>, station: usize) -> Result<bool, Refusal> {
     match shop.floor.touch(station, &mut shop.ledger) {
-        Ok((Outcome::CountedReady, _)) => Ok(false),
-        Ok((Outcome::Ready, _)) => Ok(false),
-        Ok(_) => Ok(true),
+        Ok((outcome, _)) => Ok(!matches!(outcome, Outcome::CountedReady | Outcome::Ready)),
         Err(Refusal::AlreadyReady) => Ok(false),
-        Err(refusal) => Err(failed(refusal)),
+        Err(refusal) => Err(refusal),
     }
 }
 
@@ -83,10 +47,8 @@ fn finish<K: Key, E: Copy>(shop: &mut Shop<K, E>, stations: usize) -> anyhow::Re
     // no operation of a day this short needs more rounds
     for _ in 0..1000 {
         let mut waits = false;
-        for place in 0..stations {
-            if advance(shop, place + 1)? {
-                waits = true;
-            }
+        for station in 1..=stations {
+            waits |= advance(shop, station)?;
         }
         if !waits {
             return Ok(());
@@ -102,7 +64,7 @@ fn collect<K: Key + Text, E: Copy + Text>(
     station: usize,
     op: &Side<NestOp<K>, LineOp<E>>,
 ) -> anyhow::Result<Side<NestAnswer, LineAnswer<E>>> {
-    let answer = checked(shop.floor.collect(station))?;
+    let answer = shop.floor.collect(station)?;
     println!(rt; "{op} {answer}")?;
     Ok(answer)
 }
@@ -113,7 +75,7 @@ fn alone<K: Key + Text, E: Copy + Text>(
     shop: &mut Shop<K, E>,
     op: Side<NestOp<K>, LineOp<E>>,
 ) -> anyhow::Result<Side<NestAnswer, LineAnswer<E>>> {
-    checked(shop.floor.start(1, &op))?;
+    shop.floor.start(1, &op)?;
     finish(shop, 1)?;
     collect(rt, shop, 1, &op)
 }
@@ -126,65 +88,67 @@ fn hang<K: Key + Text, E: Copy + Text>(
 ) -> anyhow::Result<()> {
     let add = Side::First(NestOp::Add(key));
     let find = Side::First(NestOp::Find(key));
-    checked(shop.floor.start(1, &add))?;
-    checked(shop.floor.start(2, &find))?;
+    shop.floor.start(1, &add)?;
+    shop.floor.start(2, &find)?;
     finish(shop, 2)?;
     let _ = collect(rt, shop, 1, &add)?;
     let _ = collect(rt, shop, 2, &find)?;
     Ok(())
 }
 
-// Takes one element: it is spread where its key still hangs, else set aside. Says which, or that the line is empty.
-fn take_one<E: Copy + Text + Named>(
+// Takes one element, if there is one: it is spread where its key still hangs, else set aside.
+fn take_one<K: Key + Text, E: Copy + Text, F: Fn(&E) -> K>(
     rt: &HostRuntime,
-    shop: &mut Shop<E::Key, E>,
-) -> anyhow::Result<Option<bool>>
-where
-    E::Key: Key + Text,
+    shop: &mut Shop<K, E>,
+    key_of: &F,
+) -> anyhow::Result<Option<Fate>>
+    requires { F.IsAlwaysCallable key_of.now }
 {
     let Side::Second(LineAnswer::Took(element)) = alone(rt, shop, Side::Second(LineOp::Take))?
     else {
         return Ok(None);
     };
-    let hangs = match alone(rt, shop, Side::First(NestOp::Find(element.key())))? {
-        Side::First(NestAnswer::Yes) => true,
-        _ => false,
-    };
-    if hangs {
+    let found = alone(rt, shop, Side::First(NestOp::Find(key_of(&element))))?;
+    if matches!(found, Side::First(NestAnswer::Yes)) {
         println!(rt; "spread {element}")?;
+        Ok(Some(Fate::Spread))
     } else {
         println!(rt; "set aside {element}")?;
+        Ok(Some(Fate::SetAside))
     }
-    Ok(Some(hangs))
 }
-// Takes every element and prints how many were spread and how many set aside.
-fn take_all<E: Copy + Text + Named>(
+
+// Takes so many elements and prints how many were spread and how many set aside.
+fn take_all<K: Key + Text, E: Copy + Text, F: Fn(&E) -> K>(
     rt: &HostRuntime,
-    shop: &mut Shop<E::Key, E>,
+    shop: &mut Shop<K, E>,
     number: usize,
+    key_of: &F,
 ) -> anyhow::Result<()>
-where
-    E::Key: Key + Text,
+    requires { F.IsAlwaysCallable key_of.now }
 {
-    let mut spread: usize = 0;
-    let mut aside: usize = 0;
+    let mut fates = Vec::new(rt.alloc());
     for _ in 0..number {
-        match take_one(rt, shop)? {
-            Some(true) => spread = spread.saturating_add(1),
-            Some(false) => aside = aside.saturating_add(1),
-            None => {}
-        }
+        fates.push(take_one(rt, shop, key_of)?)?;
     }
+    let spread = fates
+        .iter()
+        .filter(|fate| **fate == Some(Fate::Spread))
+        .count();
+    let aside = fates
+        .iter()
+        .filter(|fate| **fate == Some(Fate::SetAside))
+        .count();
     println!(rt; "{spread} spread, {aside} set aside")?;
     Ok(())
 }
 
 // Closes the floor and prints its ledger.
 fn close<K: Key + Text, E: Copy + Text>(rt: &HostRuntime, shop: Shop<K, E>) -> anyhow::Result<()> {
-    checked(shop.floor.check_close())?;
+    shop.floor.check_close()?;
     let Shop { floor, ledger } = shop;
     let closed = floor.close();
-    for line in checked(closed.lines(&ledger))? {
+    for line in closed.lines(&ledger)? {
         println!(rt;
             "(entry {} {} {} {})",
             line.station, line.turn, line.operation, line.answer
@@ -194,20 +158,19 @@ fn close<K: Key + Text, E: Copy + Text>(rt: &HostRuntime, shop: Shop<K, E>) -> a
 }
 
 // A whole day: hangs the keys, queues the elements, drops the key that ran out, takes every element, and closes.
-fn day<E: Copy + Text + Named>(
+fn day<K: Key + Text, E: Copy + Text, F: Fn(&E) -> K>(
     rt: &HostRuntime,
-    keys: &[E::Key],
-    ran_out: E::Key,
+    keys: &[K],
+    ran_out: K,
     elements: &[E],
+    key_of: &F,
 ) -> anyhow::Result<()>
-where
-    E::Key: Key + Text,
+    requires { F.IsAlwaysCallable key_of.now }
 {
     let Some(first) = elements.first() else {
         return Ok(());
     };
-    let (floor, ledger) = checked(open_shop(rt.alloc(), 3, 64, 8, 8, ran_out, *first))?;
-    let mut shop = Shop { floor, ledger };
+    let mut shop = open_shop(rt.alloc(), SIZES, ran_out, *first)?;
     for key in keys {
         hang(rt, &mut shop, *key)?;
     }
@@ -215,13 +178,13 @@ where
         let _ = alone(rt, &mut shop, Side::Second(LineOp::Put(*element)))?;
     }
     let _ = alone(rt, &mut shop, Side::First(NestOp::Drop(ran_out)))?;
-    take_all(rt, &mut shop, elements.len())?;
+    take_all(rt, &mut shop, elements.len(), key_of)?;
     close(rt, shop)
 }
 
 // A waist and a leg, as a label.
 fn waist(waist: u32, leg: u32) -> Result<SizeLabel, Refusal> {
-    Ok(SizeLabel::Waist(WaistSize::new(waist, leg)?))
+    WaistSize::new(waist, leg).map(SizeLabel::Waist)
 }
 
 // The day of a cutting floor.
@@ -229,29 +192,41 @@ fn cutting_day(rt: &HostRuntime) -> anyhow::Result<()> {
     println!(rt; "cutting")?;
     let medium = SizeLabel::Letter(LetterSize::M);
     let large = SizeLabel::Letter(LetterSize::L);
-    let regular = checked(waist(82, 76))?;
-    let long = checked(waist(82, 84))?;
+    let regular = waist(82, 76)?;
+    let long = waist(82, 84)?;
     let tickets = [
-        checked(CutTicket::new(regular, 40))?,
-        checked(CutTicket::new(medium, 12))?,
-        checked(CutTicket::new(long, 25))?,
-        checked(CutTicket::new(medium, 200))?,
+        CutTicket::new(regular, 40)?,
+        CutTicket::new(medium, 12)?,
+        CutTicket::new(long, 25)?,
+        CutTicket::new(medium, 200)?,
     ];
-    day(rt, &[regular, medium, long, large], medium, &tickets)
+    day(
+        rt,
+        &[regular, medium, long, large],
+        medium,
+        &tickets,
+        &|ticket: &CutTicket| ticket.size,
+    )
 }
 
 // The day of a pattern floor.
 fn pattern_day(rt: &HostRuntime) -> anyhow::Result<()> {
     println!(rt; "pattern")?;
-    let sleeve = checked(PieceCode::new('B', 12))?;
-    let collar = checked(PieceCode::new('A', 999))?;
-    let pocket = checked(PieceCode::new('P', 3))?;
+    let sleeve = PieceCode::new('B', 12)?;
+    let collar = PieceCode::new('A', 999)?;
+    let pocket = PieceCode::new('P', 3)?;
     let orders = [
-        checked(PlotOrder::new(pocket, 50))?,
-        checked(PlotOrder::new(collar, 2))?,
-        checked(PlotOrder::new(sleeve, 2))?,
+        PlotOrder::new(pocket, 50)?,
+        PlotOrder::new(collar, 2)?,
+        PlotOrder::new(sleeve, 2)?,
     ];
-    day(rt, &[sleeve, collar, pocket], collar, &orders)
+    day(
+        rt,
+        &[sleeve, collar, pocket],
+        collar,
+        &orders,
+        &|order: &PlotOrder| order.piece,
+    )
 }
 
 fn main(rt: HostRuntime) -> anyhow::Result<()> {

@@ -55,7 +55,7 @@ fn advice(kind: FaultKind) -> &'static str {
     }
 }
 
-// Why a floor was not opened, and which sizes it may have.
+// Why a floor was not opened, and which sizes it may have, by the letters of the help. The refusal's own text has none.
 fn reason(refusal: Refusal) -> &'static str {
     match refusal {
         Refusal::StationCount => "S, the number of stations, is 1 to 16",
@@ -92,11 +92,7 @@ fn run_and_print(rt: &HostRuntime, script: &[u8]) -> anyhow::Result<()> {
 }
 
 // Runs the script that was read from there, or says that it cannot be read.
-fn run_read(
-    rt: &HostRuntime,
-    source: &str,
-    script: io::Result<Vec<u8>>,
-) -> anyhow::Result<()> {
+fn run_read(rt: &HostRuntime, source: &str, script: io::Result<Vec<u8>>) -> anyhow::Result<()> {
     match script {
         Ok(script) => run_and_print(rt, &script),
         Err(error) => {
@@ -107,8 +103,7 @@ fn run_read(
 }
 
 fn main(rt: HostRuntime) -> anyhow::Result<()> {
-    let mut words = env::args(&rt)?;
-    let _program = words.next();
+    let mut words = env::args(&rt)?.skip(1);
     let Some(first) = words.next() else {
         let script = read_script(rt.alloc(), rt.stdin());
         return run_read(&rt, "standard input", script);

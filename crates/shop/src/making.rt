@@ -1,4 +1,5 @@
-// The boards of a shop, over tables that are made for them.
+// The boards of a shop, over tables that are made for them. The two makings share no more than `filled`: nodes, places
+// besides them and the states of stations are of other types and numbers.
 ghost use Rattle.std.specs.Prelude.{◌≡◌, ◌+◌, ◌≤◌, true, ◌&&◌, [], replicate, IfOk, IfErr};
 ghost use Rattle.keys.specs.declared.refusal.Refusal.TheVariants.{NoMemory};
 ghost use Rattle.boards.specs.Board.{Fresh};

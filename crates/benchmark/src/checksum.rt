@@ -36,7 +36,7 @@ impl Checksum {
     }
 }
 
-// What has a number for a checksum.
+// What has a number for a checksum. The numbers are those of the twin in Rust.
 pub trait Coded {
     fn code(&self) -> u64;
 }

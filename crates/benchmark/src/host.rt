@@ -7,67 +7,87 @@ use boards::board::Board;
 use boards::outcome::Outcome;
 use std::time::Instant;
 
+// Where the operations come from, the numbers that are drawn, and the checksum of what was told.
+#[derive(Drop)]
+pub struct Host<R: Drop> {
+    pub requests: R,
+    pub numbers: Generator,
+    pub sum: Checksum,
+}
+
+impl<R: Requests + Drop> Host<R> {
+    pub fn new(requests: R) -> Host<R> {
+        Host {
+            requests,
+            numbers: Generator::new(),
+            sum: Checksum::new(),
+        }
+    }
+
+    // Hands the next operation to a station.
+    fn begin<B: Board<Op = R::Op>>(&mut self, board: &mut B, station: usize) {
+        let op = self.requests.next(&mut self.numbers);
+        if board.space(&op) {
+            let _ = board.begin(station, &op);
+        } else {
+            let _ = board.begin(station, &self.requests.instead(&op));
+        }
+    }
+
+    // One touch of one station. A station that is ready gets its next operation at once.
+    fn touch<B: Board<Op = R::Op>>(&mut self, board: &mut B, station: usize)
+    where
+        B::Answer: Coded,
+    {
+        let (outcome, answer) = board.touch(station);
+        self.sum.add_touch(&outcome, &answer);
+        if is_ready(&outcome) {
+            board.release(station);
+            self.begin(board, station);
+        }
+    }
+
+    // So many touches of stations drawn one after another.
+    fn work<B: Board<Op = R::Op>>(&mut self, board: &mut B, touches: usize)
+    where
+        B::Answer: Coded,
+    {
+        let stations = board.stations();
+        for station in 1..=stations {
+            self.begin(board, station);
+        }
+        for _ in 0..touches {
+            let station = self.numbers.station(stations);
+            self.touch(board, station);
+        }
+    }
+
+    // So many touches of each of the boards. The time is that of the touches, with begins and releases.
+    pub fn work_on_each<B: Board<Op = R::Op>>(
+        mut self,
+        rt: &HostRuntime,
+        boards: &mut Vec<B>,
+        touches: usize,
+    ) -> anyhow::Result<Run>
+    where
+        B::Answer: Coded,
+        B::Item: Coded,
+    {
+        let start = Instant::now(rt)?;
+        for board in boards.iter_mut() {
+            self.work(board, touches);
+        }
+        let time = start.elapsed(rt)?;
+        for board in boards.iter() {
+            add_contents(board, &mut self.sum);
+        }
+        Ok(Run::new(touches.saturating_mul(boards.len()), self.sum, time))
+    }
+}
+
 // Can the answer be collected?
 pub fn is_ready(outcome: &Outcome) -> bool {
-    match outcome {
-        Outcome::CountedReady | Outcome::Ready => true,
-        _ => false,
-    }
-}
-
-// Hands the next operation to a station.
-pub fn begin<B: Board, R: Requests<Op = B::Op>>(
-    board: &mut B,
-    station: usize,
-    requests: &R,
-    numbers: &mut Generator,
-) {
-    let op = requests.next(numbers);
-    if board.space(&op) {
-        let _ = board.begin(station, &op);
-    } else {
-        let _ = board.begin(station, &requests.instead(&op));
-    }
-}
-
-// One touch of one station. A station that is ready gets its next operation at once.
-fn touch<B: Board, R: Requests<Op = B::Op>>(
-    board: &mut B,
-    station: usize,
-    requests: &R,
-    numbers: &mut Generator,
-    sum: &mut Checksum,
-)
-where
-    B::Answer: Coded,
-{
-    let (outcome, answer) = board.touch(station);
-    sum.add_touch(&outcome, &answer);
-    if is_ready(&outcome) {
-        board.release(station);
-        begin(board, station, requests, numbers);
-    }
-}
-
-// So many touches of stations drawn one after another.
-fn work<B: Board, R: Requests<Op = B::Op>>(
-    board: &mut B,
-    requests: &R,
-    touches: usize,
-    numbers: &mut Generator,
-    sum: &mut Checksum,
-)
-where
-    B::Answer: Coded,
-{
-    let stations = board.stations();
-    for station in 1..=stations {
-        begin(board, station, requests, numbers);
-    }
-    for _ in 0..touches {
-        let station = numbers.station(stations);
-        touch(board, station, requests, numbers, sum);
-    }
+    matches!(outcome, Outcome::CountedReady | Outcome::Ready)
 }
 
 // Adds what the board holds to the checksum.
@@ -75,35 +95,28 @@ pub fn add_contents<B: Board>(board: &B, sum: &mut Checksum)
 where
     B::Item: Coded,
 {
-    for place in 0..board.items() {
-        if let Some(item) = board.item(place) {
-            sum.add(item.code());
-        }
+    for item in (0..board.items()).filter_map(|place| board.item(place)) {
+        sum.add(item.code());
     }
 }
 
-// So many touches of each of the boards. The time is that of the touches, with begins and releases.
-pub fn work_on_each<B: Board, R: Requests<Op = B::Op>>(
-    rt: &HostRuntime,
-    boards: &mut Vec<B>,
-    requests: &R,
-    touches: usize,
-) -> anyhow::Result<Run>
+// One operation of station 1, from its begin to its release. Tells how many touches it took. Only the last of them goes
+// into the checksum, so that a find does no more around its touches than the bare walk around its steps.
+pub fn alone<B: Board>(board: &mut B, op: &B::Op, sum: &mut Checksum) -> usize
 where
     B::Answer: Coded,
-    B::Item: Coded,
 {
-    let mut numbers = Generator::new();
-    let mut sum = Checksum::new();
-    let start = Instant::now(rt)?;
-    for board in boards.iter_mut() {
-        work(board, requests, touches, &mut numbers, &mut sum);
+    let _ = board.begin(1, op);
+    // no operation of one station takes more
+    for touches in 1..1001 {
+        let (outcome, answer) = board.touch(1);
+        if is_ready(&outcome) {
+            sum.add_touch(&outcome, &answer);
+            board.release(1);
+            return touches;
+        }
     }
-    let time = start.elapsed(rt)?;
-    for board in boards.iter() {
-        add_contents(board, &mut sum);
-    }
-    Ok(Run::new(touches.saturating_mul(boards.len()), sum, time))
+    0
 }
 
 // The numbers that a host draws and adds up for so many touches, without the touches.

@@ -1,54 +1,39 @@
-// The boards and shops of the workloads.
-use crate::requests::SMALLEST;
+// The boards of the workloads.
+use crate::requests::{SMALLEST, SMALLEST_TICKET};
 use keys::cut_ticket::CutTicket;
 use keys::refusal::Refusal;
 use keys::size_label::SizeLabel;
 use line::Line;
-use line_model::node::Node as LineNode;
-use line_model::seat::Seat;
 use nest::Nest;
-use nest_model::cell::Cell;
-use nest_model::node::Node as NestNode;
-use nest_model::work::Work;
 use pair::pair::Pair;
+use shop::making::{make_line as make_line_of, make_nest as make_nest_of};
+use shop::sizes::Sizes;
 use std::alloc::Global;
 
-// An empty nest.
-pub fn make_nest(heap: Global, stations: usize, size: usize) -> Result<Nest<SizeLabel>, Refusal> {
-    let cell = Cell {
-        next: None,
-        mark: false,
-    };
-    let blank = NestNode {
-        key: SMALLEST,
-        cell,
-    };
-    let nodes = vec![in heap; blank; size.saturating_add(2)]?;
-    let works = vec![in heap; Work::Free; stations]?;
-    Nest::<SizeLabel>::check(stations, size, &nodes, &works)?;
-    Ok(Nest::<SizeLabel>::new(stations, size, nodes, works))
+// The largest sizes that a floor can have.
+pub const LARGEST: Sizes = Sizes {
+    stations: 16,
+    limit: 1024,
+    nest_nodes: 512,
+    line_nodes: 512,
+};
+
+// The empty nest of a floor with these sizes.
+pub fn make_nest(heap: Global, sizes: Sizes) -> Result<Nest<SizeLabel>, Refusal> {
+    sizes.check()?;
+    make_nest_of(heap, sizes.stations, sizes.nest_nodes, SMALLEST)
 }
 
-// An empty line.
-pub fn make_line(heap: Global, stations: usize, size: usize) -> Result<Line<CutTicket>, Refusal> {
-    let blank = LineNode {
-        element: CutTicket::new(SMALLEST, 1)?,
-        next: None,
-    };
-    let nodes = vec![in heap; blank; size.saturating_add(1)]?;
-    let seats = vec![in heap; Seat::Free; stations]?;
-    Line::<CutTicket>::check(stations, size, &nodes, &seats)?;
-    Ok(Line::<CutTicket>::new(stations, size, nodes, seats))
+// The empty line of a floor with these sizes.
+pub fn make_line(heap: Global, sizes: Sizes) -> Result<Line<CutTicket>, Refusal> {
+    sizes.check()?;
+    make_line_of(heap, sizes.stations, sizes.line_nodes, SMALLEST_TICKET)
 }
 
-// An empty nest and an empty line side by side.
+// The empty board of a floor with these sizes: a nest and a line side by side.
 pub fn make_pair(
     heap: Global,
-    stations: usize,
-    nest_size: usize,
-    line_size: usize,
+    sizes: Sizes,
 ) -> Result<Pair<Nest<SizeLabel>, Line<CutTicket>>, Refusal> {
-    let nest = make_nest(heap, stations, nest_size)?;
-    let line = make_line(heap, stations, line_size)?;
-    Ok(Pair::new(nest, line))
+    Ok(Pair::new(make_nest(heap, sizes)?, make_line(heap, sizes)?))
 }

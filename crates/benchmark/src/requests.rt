@@ -9,14 +9,20 @@ use plain_model::side::Side;
 // The smallest size label.
 pub const SMALLEST: SizeLabel = SizeLabel::Letter(LetterSize::Xs);
 
+// A ticket for it.
+pub const SMALLEST_TICKET: CutTicket = CutTicket {
+    size: SMALLEST,
+    plies: 1,
+};
+
 // The key of a number from 0 to 7,380. Keys of larger numbers come later in the order.
 pub fn key(number: u64) -> SizeLabel {
     let waist = u32::try_from(number / 61).unwrap_or(0);
     let leg = u32::try_from(number % 61).unwrap_or(0);
-    match WaistSize::new(waist.saturating_add(40), leg.saturating_add(50)) {
-        Ok(size) => SizeLabel::Waist(size),
-        Err(_) => SMALLEST,
-    }
+    WaistSize::new(waist.saturating_add(40), leg.saturating_add(50)).map_or(
+        SMALLEST,
+        SizeLabel::Waist,
+    )
 }
 
 // A ticket for one of the first 512 keys, if the number of plies is from 1 to 200.
@@ -57,8 +63,7 @@ impl Requests for NestRequests {
     fn instead(&self, op: &NestOp<SizeLabel>) -> NestOp<SizeLabel> {
         match op {
             NestOp::Add(key) => NestOp::Find(*key),
-            NestOp::Drop(key) => NestOp::Drop(*key),
-            NestOp::Find(key) => NestOp::Find(*key),
+            _ => *op,
         }
     }
 }
@@ -74,10 +79,7 @@ impl Requests for LineRequests {
         if numbers.below(2) == 0 {
             return LineOp::Take;
         }
-        match ticket(numbers) {
-            Some(ticket) => LineOp::Put(ticket),
-            None => LineOp::Take,
-        }
+        ticket(numbers).map_or(LineOp::Take, LineOp::Put)
     }
 
     fn instead(&self, _op: &LineOp<CutTicket>) -> LineOp<CutTicket> {

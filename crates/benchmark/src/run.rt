@@ -19,7 +19,7 @@ impl Run {
         }
     }
 
-    // Nanoseconds a touch, in hundredths.
+    // Nanoseconds a touch, in hundredths. They are no float, since `as` has to lose nothing.
     pub fn hundredths(&self) -> u64 {
         self.nanoseconds
             .saturating_mul(100)

@@ -1,16 +1,14 @@
 // A walk along a chain of 200 nodes: along the bare cells, and by the touches of a find.
 use crate::checksum::Checksum;
-use crate::failure::checked;
-use crate::host::is_ready;
-use crate::making::make_nest;
+use crate::host::alone;
+use crate::making::{LARGEST, make_nest};
 use crate::requests::{SMALLEST, key};
 use crate::run::Run;
-use boards::board::Board;
 use keys::size_label::SizeLabel;
-use nest::Nest;
 use nest_model::cell::Cell;
 use nest_model::node::Node;
 use plain_model::nest_op::NestOp;
+use shop::sizes::Sizes;
 use std::alloc::{AllocError, Global};
 use std::time::Instant;
 
@@ -71,10 +69,7 @@ fn chain(heap: Global) -> Result<Vec<Node<SizeLabel>>, AllocError> {
 fn walk(nodes: &[Node<SizeLabel>]) -> usize {
     let mut at = 0;
     for steps in 0..nodes.len() {
-        let Some(node) = nodes.get(at) else {
-            return steps;
-        };
-        let Some(next) = node.cell.next else {
+        let Some(next) = nodes.get(at).and_then(|node| node.cell.next) else {
             return steps;
         };
         at = next;
@@ -97,35 +92,24 @@ pub fn bare_walk(rt: &HostRuntime) -> anyhow::Result<Run> {
     Ok(Run::new(steps, sum, time))
 }
 
-// One operation from its begin to its release, by station 1. Tells how many touches it took. Only the last of them goes
-// into the checksum, so that a find does no more around its touches than the bare walk around its steps.
-fn alone(nest: &mut Nest<SizeLabel>, op: NestOp<SizeLabel>, sum: &mut Checksum) -> usize {
-    let _ = nest.begin(1, &op);
-    // no operation of one station takes more
-    for touches in 0..1000usize {
-        let (outcome, answer) = nest.touch(1);
-        if is_ready(&outcome) {
-            sum.add_touch(&outcome, &answer);
-            nest.release(1);
-            return touches.saturating_add(1);
-        }
-    }
-    0
-}
-
 // Finds of the last key.
 pub fn find_last(rt: &HostRuntime) -> anyhow::Result<Run> {
-    let mut nest = checked(make_nest(rt.alloc(), 1, KEYS))?;
+    let sizes = Sizes {
+        stations: 1,
+        nest_nodes: KEYS,
+        ..LARGEST
+    };
+    let mut nest = make_nest(rt.alloc(), sizes)?;
     let mut sum = Checksum::new();
     for place in 0..KEYS {
         let key = key(key_of_node(place) as u64);
-        let _ = alone(&mut nest, NestOp::Add(key), &mut sum);
+        let _ = alone(&mut nest, &NestOp::Add(key), &mut sum);
     }
     let last = key(199);
     let mut touches: usize = 0;
     let start = Instant::now(rt)?;
     for _ in 0..WALKS {
-        touches = touches.saturating_add(alone(&mut nest, NestOp::Find(last), &mut sum));
+        touches = touches.saturating_add(alone(&mut nest, &NestOp::Find(last), &mut sum));
     }
     let time = start.elapsed(rt)?;
     Ok(Run::new(touches, sum, time))

@@ -4,6 +4,7 @@
 use anyhow::anyhow;
 use keys::refusal::Refusal;
 use lex::fault::{Fault, FaultKind};
+use lex::token::Place;
 use script::run::run;
 use script_model::ending::Ending;
 use std::alloc::Global;
@@ -77,7 +78,8 @@ fn explain(rt: &HostRuntime, ending: Ending) -> anyhow::Result<()> {
             )?;
             Err(anyhow!("the floor was not opened"))
         }
-        Ending::Faulty(Fault { kind, line, byte }) => {
+        Ending::Faulty(Fault { kind, place }) => {
+            let Place { line, byte } = place;
             eprintln!(rt; "gaqtseni: line {line}, byte {byte}: {}", advice(kind))?;
             Err(anyhow!("the script is at fault"))
         }

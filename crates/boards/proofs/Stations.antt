@@ -1,13 +1,11 @@
--- What is asked of all the stations of a board, and what a station is that is mapped.
-use Rattle.std.proofs.Common.{◌≡◌, ℕ, zero, suc, ◌+◌, ◌≤◌, Bool, true, false, cond, ◌&&◌, leb, refl, ap, ◌∙◌, ⊎_elim, arith}
-use Rattle.std.specs.List.{range_with_len, list_all, count_by}
+-- Which stations exist, which are free where all are, and what a station is that is mapped.
+use Rattle.std.proofs.Common.{◌≡◌, ℕ, zero, suc, ◌≤◌, true, leb, refl, ap, ◌∙◌, ⊎_elim, arith}
 use Rattle.std.proofs.lemmas.Bool.{and_parts, and_from, cases_Bool, cases_eq, leb-true, false≢true}
 use Rattle.plain_model.specs.Machine.{Machine}
-use Rattle.boards.specs.Board.{Steps, Meaning, is_free, is_uncounted, exists, free_to, all_free, uncounted_to, Maps, mapped}
+use Rattle.boards.specs.Board.{Steps, Meaning, is_free, exists, free_to, all_free, Maps, mapped}
 use Rattle.boards.specs.Laws.{Laws}
 use Rattle.boards.specs.declared.station.Station.{Station}
 use Rattle.boards.specs.declared.station.Station.TheVariants.{Free, Uncounted, Counted, Ready}
-use Rattle.boards.proofs.Ranges.{list_all-last, count_by-last}
 
 pub free_is : {Op Answer : Type 0} (x : Station Op Answer) → is_free x ≡ true → x ≡ Free
 free_is Free e = refl
@@ -25,22 +23,6 @@ mapped_is f g is_f is_g (Counted o a) y m = m.4 ∙ ap (λ x. Counted x m.1) (is
 mapped_is f g is_f is_g (Ready o a) y m = m.4 ∙ ap (λ x. Ready x m.1) (is_f o m.0 m.2) ∙ ap (Ready (f o)) (is_g a m.1 m.3)
 
 module _ {Model Plain Op Answer : Type 0} (means : Meaning Model Plain Op Answer) (m : Model) where
-  -- the same asked of the list of their numbers
-  pub all_free_list : (n : ℕ) → list_all (λ p. is_free (means.station m p)) (range_with_len 1 n) ≡ free_to means m n
-  all_free_list zero = refl
-  all_free_list (suc n) =
-      list_all-last (λ p. is_free (means.station m p)) 1 n (suc n) (omega arith) ∙ ap (λ b. is_free (means.station m (suc n)) && b) (all_free_list n)
-
-  pub uncounted_list : (n : ℕ) → count_by (λ p. is_uncounted (means.station m p)) (range_with_len 1 n) ≡ uncounted_to means m n
-  uncounted_list zero = refl
-  uncounted_list (suc n) =
-      count_by-last (λ p. is_uncounted (means.station m p)) 1 n (suc n) (omega arith) ∙ ap (λ k. k + cond (is_uncounted (means.station m (suc n))) 1 0) (uncounted_list n) ∙
-      one (is_uncounted (means.station m (suc n))) (uncounted_to means m n)
-    where
-      one : (b : Bool) (k : ℕ) → k + cond b 1 0 ≡ cond b (suc k) k
-      one true k = omega arith
-      one false k = omega arith
-
   -- a station that exists is one of those numbered from 1
   pub exists_within : (p : ℕ) → exists means m p ≡ true → (1 ≤ p) × (p ≤ means.stations m)
   exists_within p x =

@@ -1,9 +1,8 @@
 // The pair of any two boards.
-ghost use Rattle.std.specs.Prelude.{◌≡◌, Ok, slice_set};
+ghost use Rattle.std.specs.Prelude.{◌≡◌, Ok};
 ghost use Rattle.plain_model.specs.Pair.{pair as plain_pair};
-ghost use Rattle.plain_model.specs.declared.side.Side.TheVariants.{First, Second};
-ghost use Rattle.boards.specs.Board.{Fresh, is_free};
-ghost use Rattle.pair_model.specs.Pair.{first as at_first, second as at_second, answered, pair_steps, pair_means, Sound, all_free, checked};
+ghost use Rattle.boards.specs.Board.{Fresh};
+ghost use Rattle.pair_model.specs.Pair.{pair_steps, pair_means, Sound, checked};
 ghost use Rattle.pair_model.proofs.PairLaws.{pair_laws};
 
 use boards::board::Board;
@@ -14,6 +13,8 @@ use plain_model::side::Side;
 
 // Two boards side by side, each operation going to its side. A station of the pair is the station of that number at
 // both sides, and is at work at one of them at most: at the first unless it is free there.
+// What is of one side is put in the pair by closures: of a constructor named alone, as in `map(Side::First)`, the check
+// does not take that its result names the other side's type.
 #[derive(Drop)]
 pub struct Pair<F, S> {
     first: F,
@@ -25,7 +26,7 @@ impl<F: Board, S: Board> Pair<F, S> {
     pub fn check(first: &F, second: &S) -> Result<(), Refusal>
         ensures { result ≡ checked F.Board.means S.Board.means (F.Board.model first.now, S.Board.model second.now) }
     {
-        if all_free(first) && all_free(second) {
+        if first.all_free() && second.all_free() {
             Ok(())
         } else {
             Err(Refusal::NotFree)
@@ -81,7 +82,7 @@ impl<F: Board, S: Board> Board for Pair<F, S> {
     ghost laws = { pair_laws F.Board.laws S.Board.laws };
 
     fn begin(&mut self, station: usize, op: &Side<F::Op, S::Op>) -> bool {
-        if station < 1 || station > self.stations() || !is_free(&self.station(station)) {
+        if !self.exists(station) || !self.station(station).is_free() {
             return false;
         }
         match op {
@@ -91,16 +92,16 @@ impl<F: Board, S: Board> Board for Pair<F, S> {
     }
 
     fn touch(&mut self, station: usize) -> (Outcome, Option<Side<F::Answer, S::Answer>>) {
-        if !is_free(&self.first.station(station)) {
+        if !self.first.station(station).is_free() {
             let (outcome, answer) = self.first.touch(station);
-            return (outcome, first_side(answer));
+            return (outcome, answer.map(|answer| Side::First(answer)));
         }
         let (outcome, answer) = self.second.touch(station);
-        (outcome, second_side(answer))
+        (outcome, answer.map(|answer| Side::Second(answer)))
     }
 
     fn release(&mut self, station: usize) {
-        if is_free(&self.first.station(station)) {
+        if self.first.station(station).is_free() {
             self.second.release(station);
         } else {
             self.first.release(station);
@@ -108,23 +109,21 @@ impl<F: Board, S: Board> Board for Pair<F, S> {
     }
 
     fn stations(&self) -> usize {
-        let first = self.first.stations();
-        let second = self.second.stations();
-        if first < second { first } else { second }
+        self.first.stations().min(self.second.stations())
     }
 
     fn bound(&self) -> usize {
-        let first = self.first.bound();
-        let second = self.second.bound();
-        if first < second { second } else { first }
+        self.first.bound().max(self.second.bound())
     }
 
     fn station(&self, station: usize) -> Station<Side<F::Op, S::Op>, Side<F::Answer, S::Answer>> {
         let first = self.first.station(station);
-        if is_free(&first) {
-            second_station(self.second.station(station))
+        if first.is_free() {
+            self.second
+                .station(station)
+                .map(|op| Side::Second(op), |answer| Side::Second(answer))
         } else {
-            first_station(first)
+            first.map(|op| Side::First(op), |answer| Side::First(answer))
         }
     }
 
@@ -143,7 +142,10 @@ impl<F: Board, S: Board> Board for Pair<F, S> {
         match self.first.item(place) {
             Some(item) => Some(Side::First(item)),
             // here the first side has at most `place` items, so their number is told exactly
-            None => second_side(self.second.item(place - self.first.items())),
+            None => {
+                let later = self.second.item(place - self.first.items());
+                later.map(|item| Side::Second(item))
+            }
         }
     }
 
@@ -152,89 +154,13 @@ impl<F: Board, S: Board> Board for Pair<F, S> {
         if self.item(list.len()).is_some() {
             return false;
         }
+        // the places are counted, since an item of the pair is asked for by its place
         for place in 0..list.len() {
             let Some(item) = self.item(place) else {
                 return true;
             };
-            put(list, place, item);
+            list[place] = item;
         }
         true
-    }
-}
-
-// Is every station of the board free?
-fn all_free<T: Board>(board: &T) -> bool
-    ensures { result ≡ all_free T.Board.means (T.Board.model board.now) }
-{
-    for station in 1..=board.stations() {
-        if !is_free(&board.station(station)) {
-            return false;
-        }
-    }
-    true
-}
-
-// Is the station free?
-fn is_free<O, R>(station: &Station<O, R>) -> bool
-    ensures { result ≡ is_free station.now }
-{
-    match station {
-        Station::Free => true,
-        Station::Uncounted(_) => false,
-        Station::Counted(_, _) => false,
-        Station::Ready(_, _) => false,
-    }
-}
-
-// What a station of the first side is doing, as of the pair.
-fn first_station<O, P, Q, R>(station: Station<O, Q>) -> Station<Side<O, P>, Side<Q, R>>
-    ensures { result ≡ at_first station }
-{
-    match station {
-        Station::Free => Station::Free,
-        Station::Uncounted(op) => Station::Uncounted(Side::First(op)),
-        Station::Counted(op, answer) => Station::Counted(Side::First(op), Side::First(answer)),
-        Station::Ready(op, answer) => Station::Ready(Side::First(op), Side::First(answer)),
-    }
-}
-
-// What a station of the second side is doing, as of the pair.
-fn second_station<O, P, Q, R>(station: Station<P, R>) -> Station<Side<O, P>, Side<Q, R>>
-    ensures { result ≡ at_second station }
-{
-    match station {
-        Station::Free => Station::Free,
-        Station::Uncounted(op) => Station::Uncounted(Side::Second(op)),
-        Station::Counted(op, answer) => Station::Counted(Side::Second(op), Side::Second(answer)),
-        Station::Ready(op, answer) => Station::Ready(Side::Second(op), Side::Second(answer)),
-    }
-}
-
-// An answer or an item of the first side, as of the pair.
-fn first_side<X, Y>(value: Option<X>) -> Option<Side<X, Y>>
-    ensures { result ≡ answered First value }
-{
-    match value {
-        Some(x) => Some(Side::First(x)),
-        None => None,
-    }
-}
-
-// An answer or an item of the second side, as of the pair.
-fn second_side<X, Y>(value: Option<Y>) -> Option<Side<X, Y>>
-    ensures { result ≡ answered Second value }
-{
-    match value {
-        Some(x) => Some(Side::Second(x)),
-        None => None,
-    }
-}
-
-// Puts an item into the list, if the list has such a place.
-fn put<T: Copy>(list: &mut [T], place: usize, item: T)
-    ensures { list.new ≡ slice_set list.old place item }
-{
-    if place < list.len() {
-        list[place] = item;
     }
 }

@@ -1,6 +1,9 @@
 -- The pair of two boards keeps the laws of a board, since both sides do.
 use Rattle.std.proofs.Common.{◌≡◌, ℕ, ◌<◌, ◌≤◌, Bool, true, false, cond, ◌&&◌, leb, ◌≢◌, None, Option, sym, refl, ap, ◌∙◌, subst, arith}
 use Rattle.std.proofs.lemmas.Bool.{and_parts, and_from, leb-true, le-leb}
+use Rattle.std.proofs.Math.Bool.{and_assoc}
+use Rattle.std.specs.Option.{option_map}
+use Rattle.boards.proofs.Stations.{free_is}
 use Rattle.plain_model.specs.Machine.{Machine}
 use Rattle.plain_model.specs.Pair.{pair}
 use Rattle.plain_model.specs.declared.side.Side.{Side}
@@ -10,13 +13,9 @@ use Rattle.boards.specs.Laws.{Laws, KeepsOthers, Touched}
 use Rattle.boards.specs.declared.outcome.Outcome.{Outcome}
 use Rattle.boards.specs.declared.outcome.Outcome.TheVariants as told
 use Rattle.boards.specs.declared.station.Station.TheVariants.{Free, Uncounted, Ready}
-use Rattle.pair_model.specs.Pair.{first, second, either, answered, space, pair_means, Sound, begin, touch, release, pair_steps}
-use Rattle.pair_model.proofs.PairStations.{never, free_is, waiting_busy, free_idle, free_not_ready, either_first, either_second, either_alone, first_waiting, alone_waiting, second_waiting, either_free, first_ready, second_ready, touched_as, first_touched, second_touched}
+use Rattle.pair_model.specs.Pair.{first, second, either, space, pair_means, Sound, begin, touch, release, pair_steps}
+use Rattle.pair_model.proofs.PairStations.{never, waiting_busy, free_idle, free_not_ready, either_first, either_second, either_alone, first_waiting, alone_waiting, second_waiting, either_free, first_ready, second_ready, touched_as, first_touched, second_touched}
 use Rattle.pair_model.proofs.PairSides.{same_others, first_others, first_distances, first_sound, second_others, second_distances, second_sound}
-
-and_assoc : (x y z : Bool) → ((x && y) && z) ≡ (x && (y && z))
-and_assoc true y z = refl
-and_assoc false y z = refl
 
 module _ {M N S T O P A B I J : Type 0} {plain : Machine S O A I} {plain' : Machine T P B J} {steps : Steps M O A} {steps' : Steps N P B}
     {means : Meaning M S O A} {means' : Meaning N T P B} {sound : M → Type 0} {sound' : N → Type 0}
@@ -113,7 +112,7 @@ module _ {M N S T O P A B I J : Type 0} {plain : Machine S O A I} {plain' : Mach
         record {
           whole = first_sound means means' m p x keeps ok (laws.touch_sound m.0 p ok.first) alone
               (λ lacks. never (sym (ap is_free (ok.missing_first p lacks)) ∙ busy));
-          idle = λ w. ap (λ r. ((r.0, m.1), (r.1.0, answered First r.1.1)))
+          idle = λ w. ap (λ r. ((r.0, m.1), (r.1.0, option_map First r.1.1)))
               (laws.touch_idle m.0 p ok.first (sym (first_waiting s t busy) ∙ w));
           does = λ w.
               let d = first_touched plain plain' (means'.contents m.1) (laws.touch_does m.0 p ok.first (sym (first_waiting s t busy) ∙ w)) in
@@ -136,7 +135,7 @@ module _ {M N S T O P A B I J : Type 0} {plain : Machine S O A I} {plain' : Mach
               (λ lacks.
               let free = ok.missing_second p lacks in
               ap (λ r. means'.station r.0 p) (laws'.touch_idle m.1 p ok.second (free_idle t free)) ∙ free);
-          idle = λ w. ap (λ r. ((m.0, r.0), (r.1.0, answered Second r.1.1)))
+          idle = λ w. ap (λ r. ((m.0, r.0), (r.1.0, option_map Second r.1.1)))
               (laws'.touch_idle m.1 p ok.second (sym (second_waiting s t alone) ∙ w));
           does = λ w.
               let d = second_touched plain plain' (means.contents m.0) (laws'.touch_does m.1 p ok.second (sym (second_waiting s t alone) ∙ w)) in

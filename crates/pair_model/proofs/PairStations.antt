@@ -1,5 +1,6 @@
 -- What a station of a pair is doing, from what it is doing at either side, and what a touch of a side does to the pair.
 use Rattle.std.proofs.Common.{◌≡◌, true, false, cond, Option, sym, refl, ap, ◌∙◌, subst}
+use Rattle.std.specs.Option.{option_map}
 use Rattle.std.proofs.lemmas.Bool.{both_ways}
 use Rattle.plain_model.specs.Machine.{Machine}
 use Rattle.plain_model.specs.Pair.{pair}
@@ -10,19 +11,13 @@ use Rattle.boards.specs.Laws.{Touched, goes_uncounted, goes_counted, counts, cou
 use Rattle.boards.specs.declared.outcome.Outcome.{Outcome}
 use Rattle.boards.specs.declared.station.Station.{Station}
 use Rattle.boards.specs.declared.station.Station.TheVariants.{Free, Uncounted, Counted, Ready}
-use Rattle.pair_model.specs.Pair.{first, second, either, answered}
+use Rattle.pair_model.specs.Pair.{first, second, either}
 
 -- true is not false
 pub never : {X : Type 0} → true ≡ false → X
 never e = absurd (both_ways true e refl)
 
 module _ {O A : Type 0} where
-  pub free_is : (s : Station O A) → is_free s ≡ true → s ≡ Free
-  free_is Free e = refl
-  free_is (Uncounted o) e = never (sym e)
-  free_is (Counted o a) e = never (sym e)
-  free_is (Ready o a) e = never (sym e)
-
   -- a station that waits is not free
   pub waiting_busy : (s : Station O A) → is_waiting s ≡ true → is_free s ≡ false
   waiting_busy Free e = never (sym e)
@@ -112,7 +107,7 @@ touched_as {plain = plain} {was = was} {is = is} {s = s} {o = o} {a = a} t t' e 
 -- A touch of one side does to the pair what it does to that side.
 module _ {S T O P A B I J : Type 0} (plain : Machine S O A I) (plain' : Machine T P B J) where
   pub first_touched : (kept : T) {was is : S} {s s' : Station O A} {o : Outcome} {a : Option A} → Touched plain was is s s' o a →
-      Touched (pair plain plain') (was, kept) (is, kept) (first s) (first s') o (answered First a)
+      Touched (pair plain plain') (was, kept) (is, kept) (first s) (first s') o (option_map First a)
   first_touched kept (goes_uncounted e) = goes_uncounted (ap (λ x. (x, kept)) e)
   first_touched kept (goes_counted e) = goes_counted (ap (λ x. (x, kept)) e)
   first_touched kept (counts e) = counts (ap (λ r. ((r.0, kept), First r.1)) e)
@@ -120,7 +115,7 @@ module _ {S T O P A B I J : Type 0} (plain : Machine S O A I) (plain' : Machine 
   first_touched kept (readies e) = readies (ap (λ x. (x, kept)) e)
 
   pub second_touched : (kept : S) {was is : T} {t t' : Station P B} {o : Outcome} {a : Option B} → Touched plain' was is t t' o a →
-      Touched (pair plain plain') (kept, was) (kept, is) (second t) (second t') o (answered Second a)
+      Touched (pair plain plain') (kept, was) (kept, is) (second t) (second t') o (option_map Second a)
   second_touched kept (goes_uncounted e) = goes_uncounted (ap (λ x. (kept, x)) e)
   second_touched kept (goes_counted e) = goes_counted (ap (λ x. (kept, x)) e)
   second_touched kept (counts e) = counts (ap (λ r. ((kept, r.0), Second r.1)) e)

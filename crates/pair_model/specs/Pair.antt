@@ -1,36 +1,26 @@
 -- The pair of two boards as a board: both side by side, a station at one side at a time.
-use Rattle.std.specs.Prelude.{◌≡◌, ℕ, zero, suc, min, max, Bool, true, false, cond, ◌&&◌, Some, None, Ok, Err, Option, Result}
+use Rattle.std.specs.Prelude.{◌≡◌, ℕ, min, max, Bool, true, false, cond, ◌&&◌, Ok, Err, Option, Result}
+use Rattle.std.specs.Option.{option_map}
 use Rattle.keys.specs.declared.refusal.Refusal.{Refusal}
 use Rattle.keys.specs.declared.refusal.Refusal.TheVariants.{NotFree}
 use Rattle.plain_model.specs.declared.side.Side.{Side}
 use Rattle.plain_model.specs.declared.side.Side.TheVariants.{First, Second}
-use Rattle.boards.specs.Board.{Steps, Meaning, is_free, exists}
+use Rattle.boards.specs.Board.{Steps, Meaning, is_free, mapped, exists, all_free}
 use Rattle.boards.specs.declared.outcome.Outcome.{Outcome}
 use Rattle.boards.specs.declared.station.Station.{Station}
-use Rattle.boards.specs.declared.station.Station.TheVariants.{Free, Uncounted, Counted, Ready}
+use Rattle.boards.specs.declared.station.Station.TheVariants.{Free}
 
 -- what a station of the first side is doing, as of the pair
 abbrev pub first : {O P A B : Type 0} → Station O A → Station (Side O P) (Side A B)
-first Free = Free
-first (Uncounted o) = Uncounted (First o)
-first (Counted o a) = Counted (First o) (First a)
-first (Ready o a) = Ready (First o) (First a)
+first s = mapped First First s
 
 -- what a station of the second side is doing, as of the pair
 abbrev pub second : {O P A B : Type 0} → Station P B → Station (Side O P) (Side A B)
-second Free = Free
-second (Uncounted o) = Uncounted (Second o)
-second (Counted o a) = Counted (Second o) (Second a)
-second (Ready o a) = Ready (Second o) (Second a)
+second s = mapped Second Second s
 
 -- what a station of the pair is doing: it is at the first side unless it is free there
 abbrev pub either : {O P A B : Type 0} → Station O A → Station P B → Station (Side O P) (Side A B)
 either s t = cond (is_free s) (second t) (first s)
-
--- an answer of one side as an answer of the pair
-abbrev pub answered : {X Y : Type 0} → (X → Y) → Option X → Option Y
-answered side None = None
-answered side (Some a) = Some (side a)
 
 module _ {M N S T O P A B : Type 0} (means : Meaning M S O A) (means' : Meaning N T P B) where
   abbrev pub space : M × N → Side O P → Bool
@@ -65,8 +55,8 @@ module _ {M N S T O P A B : Type 0} (means : Meaning M S O A) (means' : Meaning 
 
     -- touch, by whether the station is free at the first side: then it goes to the second
     abbrev pub touch : M × N → ℕ → Bool → (M × N) × (Outcome × Option (Side A B))
-    touch m p false = (((steps.touch m.0 p).0, m.1), ((steps.touch m.0 p).1.0, answered First (steps.touch m.0 p).1.1))
-    touch m p true = ((m.0, (steps'.touch m.1 p).0), ((steps'.touch m.1 p).1.0, answered Second (steps'.touch m.1 p).1.1))
+    touch m p false = (((steps.touch m.0 p).0, m.1), ((steps.touch m.0 p).1.0, option_map First (steps.touch m.0 p).1.1))
+    touch m p true = ((m.0, (steps'.touch m.1 p).0), ((steps'.touch m.1 p).1.0, option_map Second (steps'.touch m.1 p).1.1))
 
     -- release, by the same
     abbrev pub release : M × N → ℕ → Bool → M × N
@@ -79,15 +69,6 @@ module _ {M N S T O P A B : Type 0} (means : Meaning M S O A) (means' : Meaning 
       touch = λ m p. touch m p (is_free (means.station m.0 p));
       release = λ m p. release m p (is_free (means.station m.0 p));
     }
-
--- whether each of the stations 1 to k is free
-abbrev pub free_to : {M S O A : Type 0} → Meaning M S O A → M → ℕ → Bool
-free_to means m zero = true
-free_to means m (suc k) = is_free (means.station m (suc k)) && free_to means m k
-
--- whether every station of a board is free
-abbrev pub all_free : {M S O A : Type 0} → Meaning M S O A → M → Bool
-all_free means m = free_to means m (means.stations m)
 
 -- two boards can be paired while every station of either is free
 abbrev pub checked : {M N S T O P A B : Type 0} → Meaning M S O A → Meaning N T P B → M × N → Result (Unit {0}) Refusal

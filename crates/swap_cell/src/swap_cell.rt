@@ -1,13 +1,14 @@
 // A cell that holds one number.
-ghost use Rattle.std.specs.Prelude.{◌≡◌, ℕ, ◌≤◌, Ok, slice_set};
+ghost use Rattle.std.specs.Prelude.{◌≡◌, ℕ, Ok};
 ghost use Rattle.boards.specs.Board.{Fresh};
-ghost use Rattle.swap_cell.specs.SwapCell.{Cell, cell, checked, made, swap, cell_steps, cell_means, Sound};
+ghost use Rattle.swap_cell.specs.SwapCell.{Cell, checked, made, swap, cell_steps, cell_means, Sound};
 ghost use Rattle.swap_cell.specs.SwapCellLaws.{cell_laws};
 
 use boards::board::Board;
 use boards::outcome::Outcome;
 use boards::station::Station;
 use keys::refusal::Refusal;
+use std::marker::Model;
 
 // One number, for which an operation puts another and is answered the old one. The only touch of an operation makes
 // the exchange, so it counts and is ready at once. What a station is doing stands in the table at its number; place 0
@@ -17,8 +18,17 @@ pub struct SwapCell {
     held: usize,
     stations: usize,
     table: [Station<usize, usize>; 17],
-    ghost some: { 1 ≤ stations },
-    ghost few: { stations ≤ 16 },
+}
+
+impl Model for SwapCell {
+    ghost use Rattle.std.specs.Prelude.{◌≤◌};
+    ghost use Rattle.swap_cell.specs.SwapCell.{Cell, cell};
+
+    ghost Value = { Cell };
+
+    ghost view = { λ s. cell s.held s.stations s.table };
+
+    ghost invariant = { λ s. (1 ≤ s.stations) × (s.stations ≤ 16) };
 }
 
 impl SwapCell {
@@ -29,7 +39,7 @@ impl SwapCell {
     pub fn check(stations: usize) -> Result<(), Refusal>
         ensures { result ≡ checked stations }
     {
-        if stations < 1 || stations > 16 {
+        if !(1..=16).contains(&stations) {
             return Err(Refusal::StationCount);
         }
         Ok(())
@@ -38,9 +48,9 @@ impl SwapCell {
     // A cell that holds 0, with free stations. `check` tells whether it can be made.
     pub fn new(stations: usize) -> SwapCell
         requires { checked stations ≡ Ok tt }
-        ensures made { cell result.held result.stations result.table ≡ made stations }
-        ensures sound { Sound (cell result.held result.stations result.table) }
-        ensures fresh { Fresh cell_means 0 (cell result.held result.stations result.table) }
+        ensures made { result ≡ made stations }
+        ensures sound { Sound result }
+        ensures fresh { Fresh cell_means 0 result }
     {
         SwapCell {
             held: 0,
@@ -61,7 +71,7 @@ impl Board for SwapCell {
 
     ghost Model = { Cell };
 
-    ghost model = { λ s. cell s.held s.stations s.table };
+    ghost model = { λ s. s };
 
     ghost plain = { swap };
 
@@ -74,11 +84,9 @@ impl Board for SwapCell {
     ghost laws = { cell_laws };
 
     fn begin(&mut self, station: usize, op: &usize) -> bool {
-        let taken = 1 <= station
-            && station <= self.stations
-            && matches!(self.station(station), Station::Free);
+        let taken = self.exists(station) && self.station(station).is_free();
         if taken {
-            put(&mut self.table, station, Station::Uncounted(*op));
+            self.table[station] = Station::Uncounted(*op);
         }
         taken
     }
@@ -88,20 +96,20 @@ impl Board for SwapCell {
             Station::Uncounted(op) => {
                 let old = self.held;
                 self.held = op;
-                put(&mut self.table, station, Station::Ready(op, old));
+                self.table[station] = Station::Ready(op, old);
                 (Outcome::CountedReady, Some(old))
             }
             Station::Counted(op, answer) => {
-                put(&mut self.table, station, Station::Ready(op, answer));
+                self.table[station] = Station::Ready(op, answer);
                 (Outcome::Ready, Some(answer))
             }
-            _ => (Outcome::Idle, None),
+            Station::Free | Station::Ready(_, _) => (Outcome::Idle, None),
         }
     }
 
     fn release(&mut self, station: usize) {
         if let Station::Ready(_, _) = self.station(station) {
-            put(&mut self.table, station, Station::Free);
+            self.table[station] = Station::Free;
         }
     }
 
@@ -114,10 +122,7 @@ impl Board for SwapCell {
     }
 
     fn station(&self, station: usize) -> Station<usize, usize> {
-        match self.table.get(station) {
-            Some(entry) => *entry,
-            None => Station::Free,
-        }
+        self.table.get(station).copied().unwrap_or(Station::Free)
     }
 
     fn space(&self, _op: &usize) -> bool {
@@ -133,19 +138,10 @@ impl Board for SwapCell {
     }
 
     fn show(&self, list: &mut [usize]) -> bool {
-        let fits = list.len() >= 1;
-        if fits {
-            list[0] = self.held;
+        if let Some(first) = list.first_mut() {
+            *first = self.held;
+            return true;
         }
-        fits
-    }
-}
-
-// Puts what a station is doing into the table, if the table has such a place.
-fn put(table: &mut [Station<usize, usize>], place: usize, station: Station<usize, usize>)
-    ensures { table.new ≡ slice_set table.old place station }
-{
-    if place < table.len() {
-        table[place] = station;
+        false
     }
 }

@@ -1,8 +1,7 @@
 use Rattle.std.proofs.Common.{rules, tests, ap, ◌∙◌}
 use Rattle.std.proofs.lemmas.Iterator.Search.{all_from_yields_List}
 use Rattle.boards.specs.Board.{is_free, free_to}
-use Rattle.boards.proofs.Ranges.{YieldsList-from_1_to}
-use Rattle.boards.proofs.Stations.{all_free_list}
+use Rattle.boards.proofs.Ranges.{YieldsList-from_1_to, all_free_list}
 use Rattle.boards.proofs.board.Board.all_free.Goals as goal
 
 pub returns : goal.returns

@@ -3,8 +3,7 @@ use Rattle.std.specs.List.{range_with_len}
 use Rattle.std.proofs.lemmas.Iterator.Consumers.{YieldsList-from_filter, count_from_yields_List}
 use Rattle.std.proofs.lemmas.List.Sums.{length-filter}
 use Rattle.boards.specs.Board.{is_uncounted, uncounted_to}
-use Rattle.boards.proofs.Ranges.{YieldsList-from_1_to}
-use Rattle.boards.proofs.Stations.{uncounted_list}
+use Rattle.boards.proofs.Ranges.{YieldsList-from_1_to, uncounted_list}
 use Rattle.boards.proofs.board.Board.uncounted.Goals as goal
 
 pub returns-clause-told : goal.returns-clause-told

@@ -2,6 +2,5 @@
 #![tactic(auto)]
 
 pub mod floor;
-mod stations;
 
 pub use floor::{ClosedFloor, OpenFloor};

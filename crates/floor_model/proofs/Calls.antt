@@ -1,59 +1,20 @@
--- What code that makes the calls has to show: each round of asking the stations, and what follows where no reason stands.
-use Rattle.std.proofs.Common.{◌≡◌, ℕ, zero, suc, ◌+◌, ◌-◌, ◌<◌, ◌≤◌, Bool, true, false, cond, not, ◌&&◌, ltb, List, is_some, None, Ok, Option, sym, refl, ap, ◌∙◌, subst, ⊎_elim, arith, ltb-false}
-use Rattle.std.proofs.lemmas.Bool.{cases_eq}
+-- What code that makes the calls has to show: what follows where no reason stands.
+use Rattle.std.proofs.Common.{◌≡◌, ℕ, ◌<◌, ◌≤◌, Bool, true, false, not, ltb, List, is_some, None, Some, Ok, Option, refl, ap, ◌∙◌, arith, ltb-false}
 use Rattle.keys.specs.declared.refusal.Refusal.{Refusal}
 use Rattle.keys.specs.declared.refusal.Refusal.TheVariants.{ShortTable, NoSuchStation, StillFree, AlreadyReady}
-use Rattle.boards.specs.Board.{Meaning, exists, is_free, is_waiting}
+use Rattle.boards.specs.Board.{Meaning, exists, is_free, is_uncounted, is_waiting}
 use Rattle.boards.specs.declared.outcome.Outcome.{Outcome}
 use Rattle.boards.specs.declared.station.Station.{Station}
 use Rattle.boards.specs.declared.station.Station.TheVariants.{Free, Uncounted, Counted, Ready}
 use Rattle.floor_model.specs.declared.line.Line.{Line}
-use Rattle.floor_model.specs.Floor.{Floor, is_uncounted, refuse_if, taken_unless, uncounted_to, free_to, Fits, touch_refusal, entry, enter}
+use Rattle.floor_model.specs.Floor.{Floor, refuse_if, checked, taken_unless, Fits, touch_refusal, entry, enter}
 use Rattle.floor_model.proofs.Lists.{impossible}
 use Rattle.floor_model.proofs.Stations.{uncounted_some}
 
-pub not_uncounted : {Op Answer : Type 0} (st : Station Op Answer) → ((o : Op) → st ≡ Uncounted o → ⊥) → is_uncounted st ≡ false
-not_uncounted Free n = refl
-not_uncounted (Uncounted o) n = absurd (n o refl)
-not_uncounted (Counted o a) n = refl
-not_uncounted (Ready o a) n = refl
-
-pub not_free : {Op Answer : Type 0} (st : Station Op Answer) → (st ≡ Free → ⊥) → is_free st ≡ false
-not_free Free n = absurd (n refl)
-not_free (Uncounted o) n = refl
-not_free (Counted o a) n = refl
-not_free (Ready o a) n = refl
-
-module _ {Model Plain Op Answer : Type 0} (means : Meaning Model Plain Op Answer) (m : Model) where
-  -- one round more, at station p
-  pub uncounted_next : (p : ℕ) (b : Bool) → 1 ≤ p → is_uncounted (means.station m p) ≡ b →
-      uncounted_to means m (p + 1 - 1) ≡ cond b (suc (uncounted_to means m (p - 1))) (uncounted_to means m (p - 1))
-  uncounted_next zero b l e = absurd (omega arith)
-  uncounted_next (suc n) b l e =
-      let up : suc n + 1 - 1 ≡ suc n = omega arith in
-      let down : suc n - 1 ≡ n = omega arith in
-      ap (uncounted_to means m) up ∙ ap (λ x. cond x (suc (uncounted_to means m n)) (uncounted_to means m n)) e ∙
-      ap (λ k. cond b (suc (uncounted_to means m k)) (uncounted_to means m k)) (sym down)
-
-  pub free_next : (p : ℕ) → 1 ≤ p → is_free (means.station m p) ≡ true → free_to means m (p - 1) ≡ true → free_to means m (p + 1 - 1) ≡ true
-  free_next zero l e f = absurd (omega arith)
-  free_next (suc n) l e f =
-      let up : suc n + 1 - 1 ≡ suc n = omega arith in
-      let down : suc n - 1 ≡ n = omega arith in
-      ap (free_to means m) up ∙ ap (λ x. x && free_to means m n) e ∙ ap (free_to means m) (sym down) ∙ f
-
-  and_false : (b : Bool) → b && false ≡ false
-  and_false true = refl
-  and_false false = refl
-
-  -- a station that is not free is one of all
-  pub free_fails : (n p : ℕ) → 1 ≤ p → p ≤ n → is_free (means.station m p) ≡ false → free_to means m n ≡ false
-  free_fails zero p lo hi e = absurd (omega arith)
-  free_fails (suc n) p lo hi e =
-      ⊎_elim
-      (λ d. ap (λ x. x && free_to means m n) (subst (λ x. is_free (means.station m x) ≡ false) (sym d) e))
-      (λ d. ap (λ x. is_free (means.station m (suc n)) && x) (free_fails n p lo (omega arith) e) ∙ and_false _)
-      (cases_eq (suc n) p)
+-- what a check lets pass has no reason against it
+pub passed : (r : Option Refusal) → checked r ≡ Ok tt → r ≡ None
+passed None e = refl
+passed (Some c) e = impossible (cc)
 
 -- what is not sent back is taken
 pub taken : {X T : Type 0} (r : Option Refusal) (was : X) (made : X × T) → r ≡ None → taken_unless r was made ≡ (made.0, Ok made.1)

@@ -2,15 +2,16 @@
 use Rattle.std.proofs.Common.{◌≡◌, ℕ, suc, ◌<◌, true, false, ◌&&◌, leb, List, [], length, get_or, set, sym, refl, ap, ◌∙◌, subst, ⊎_elim, arith, length-set, get_or-set_other, get_or-set_same}
 use Rattle.std.proofs.lemmas.Bool.{cases_eq}
 use Rattle.plain_model.specs.Machine.{Machine}
-use Rattle.boards.specs.Board.{Steps, Meaning, exists}
+use Rattle.boards.specs.Board.{Steps, Meaning, is_uncounted, exists, all_free}
 use Rattle.boards.specs.Laws.{Laws}
 use Rattle.boards.specs.declared.station.Station.{Station}
 use Rattle.boards.specs.declared.station.Station.TheVariants.{Free, Uncounted, Counted, Ready}
 use Rattle.floor_model.specs.declared.line.Line.{Line}
-use Rattle.floor_model.specs.Floor.{Floor, turn, opened, is_uncounted, all_free, with_board, Fits, start, touch}
+use Rattle.floor_model.specs.Floor.{Floor, turn, opened, with_board, Fits, start, touch}
 use Rattle.floor_model.specs.History.{State, to_start, to_touch, Event}
 use Rattle.floor_model.proofs.Lists.{impossible, get_d_zeros}
-use Rattle.floor_model.proofs.Stations.{exists_within, all_free_none, uncounted_more, uncounted_less, uncounted_same, turned}
+use Rattle.boards.proofs.Stations.{exists_within}
+use Rattle.floor_model.proofs.Stations.{all_free_none, uncounted_more, uncounted_less, uncounted_same, turned}
 use Rattle.floor_model.proofs.Moves.{Move, sends_back, shows, begins, passes, tallies, frees, moves}
 
 pub opened_fits : {Model Plain Op Answer : Type 0} (means : Meaning Model Plain Op Answer) (sound : Model → Type 0) (m : Model) (limit : ℕ) →

@@ -2,13 +2,14 @@
 use Rattle.std.proofs.Common.{◌≡◌, ℕ, suc, ◌+◌, ◌<◌, ◌≤◌, true, false, List, [], ◌∷◌, ◌++◌, length, get_or, take, set, Some, sym, ap, ◌∙◌, subst, ⊎_elim, arith, length-set, get_or-set_other, get_or-set_same, take-suc-set}
 use Rattle.std.proofs.lemmas.Bool.{cases_eq}
 use Rattle.plain_model.specs.Machine.{Machine}
-use Rattle.boards.specs.Board.{Steps, Meaning, exists}
+use Rattle.boards.specs.Board.{Steps, Meaning, is_uncounted, exists, uncounted}
 use Rattle.boards.specs.Laws.{Laws}
-use Rattle.floor_model.specs.Floor.{turn, line, is_uncounted, uncounted}
+use Rattle.floor_model.specs.Floor.{turn, line}
 use Rattle.floor_model.specs.History.{State, Event, started, touched, collected, starts}
 use Rattle.floor_model.specs.Law.{lines}
 use Rattle.floor_model.proofs.Histories.{starts_same, starts_other}
-use Rattle.floor_model.proofs.Stations.{exists_within, uncounted_more, uncounted_less, uncounted_same}
+use Rattle.boards.proofs.Stations.{exists_within}
+use Rattle.floor_model.proofs.Stations.{uncounted_more, uncounted_less, uncounted_same}
 use Rattle.floor_model.proofs.Moves.{Move, sends_back, shows, begins, passes, tallies, frees}
 use Rattle.floor_model.proofs.Book.{Book, refused_book, shown_book, started_book, passed_book, tallied_book, collected_book}
 

@@ -14,7 +14,8 @@ use Rattle.floor_model.specs.History.{State, Call, to_touch, Event, touched, tou
 use Rattle.floor_model.specs.Law.{lines, ReadyWithin, Holds, Law}
 use Rattle.floor_model.proofs.Lists.{impossible, get_d_zeros}
 use Rattle.floor_model.proofs.Histories.{has_none, touches_same}
-use Rattle.floor_model.proofs.Stations.{all_free_none, all_free_each}
+use Rattle.boards.proofs.Stations.{all_free_each}
+use Rattle.floor_model.proofs.Stations.{all_free_none}
 use Rattle.floor_model.proofs.Moves.{Move, sends_back, shows, begins, passes, tallies, frees, moves, refused_same, Touches}
 use Rattle.floor_model.proofs.Book.{Standing, Book}
 use Rattle.floor_model.proofs.Kept.{Kept, kept_on}

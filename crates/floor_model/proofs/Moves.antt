@@ -4,17 +4,17 @@ use Rattle.std.proofs.lemmas.Bool.{and_from, eq-eqb, lt-ltb}
 use Rattle.keys.specs.declared.refusal.Refusal.{Refusal}
 use Rattle.keys.specs.declared.refusal.Refusal.TheVariants.{ShortTable, NoSuchStation, NotFree, StillFree, AlreadyReady, StillWaiting, LedgerFull, NoSpace, ShortList}
 use Rattle.plain_model.specs.Machine.{Machine}
-use Rattle.boards.specs.Board.{Steps, Meaning, is_free, is_waiting, exists, over}
+use Rattle.boards.specs.Board.{Steps, Meaning, is_free, is_waiting, exists, uncounted, over}
 use Rattle.boards.specs.Laws.{Laws, KeepsOthers, Touched, goes_uncounted, goes_counted, counts, counts_ready, readies}
 use Rattle.boards.specs.declared.outcome.Outcome.{Outcome}
 use Rattle.boards.specs.declared.outcome.Outcome.TheVariants as told
 use Rattle.boards.specs.declared.station.Station.{Station}
 use Rattle.boards.specs.declared.station.Station.TheVariants.{Free, Uncounted, Counted, Ready}
 use Rattle.floor_model.specs.declared.line.Line.{Line}
-use Rattle.floor_model.specs.Floor.{turn, with_board, line, is_ready, tells_counted, tells_ready, refuse_if, taken_unless, uncounted, entry, enter, start_taken, touch_taken, collect_at, listing}
+use Rattle.floor_model.specs.Floor.{turn, with_board, line, is_ready, tells_counted, tells_ready, refuse_if, taken_unless, entry, enter, start_taken, touch_taken, collect_at, listing}
 use Rattle.floor_model.specs.History.{State, Call, to_start, to_touch, to_touch_beside, to_collect, to_show, Event, started, touched, collected, shown, refused, start_event, touch_event, collect_event, show_event, does}
 use Rattle.floor_model.proofs.Lists.{impossible}
-use Rattle.floor_model.proofs.Stations.{free_is}
+use Rattle.boards.proofs.Stations.{free_is}
 
 module _ {Model Plain Op Answer Item : Type 0} (plain : Machine Plain Op Answer Item) (steps : Steps Model Op Answer)
     (means : Meaning Model Plain Op Answer) (sound : Model → Type 0) where

@@ -1,18 +1,10 @@
 -- How many stations wait uncounted, as one station changes.
-use Rattle.std.proofs.Common.{◌≡◌, ℕ, zero, suc, ◌≤◌, Bool, true, false, cond, leb, ◌≢◌, sym, refl, ap, ◌∙◌, subst, ⊎_elim, arith, leb-true}
-use Rattle.std.proofs.lemmas.Bool.{and_parts, and_from, cases_eq, cond-false}
-use Rattle.boards.specs.Board.{Meaning, exists, is_free}
+use Rattle.std.proofs.Common.{◌≡◌, ℕ, zero, suc, ◌≤◌, Bool, true, false, cond, ◌≢◌, sym, refl, ap, ◌∙◌, subst, ⊎_elim, arith}
+use Rattle.std.proofs.lemmas.Bool.{and_parts, cases_eq, cond-false}
+use Rattle.boards.specs.Board.{Meaning, exists, is_free, is_uncounted, free_to, all_free, uncounted_to, uncounted}
 use Rattle.boards.specs.Laws.{KeepsOthers}
-use Rattle.boards.specs.declared.station.Station.{Station}
-use Rattle.boards.specs.declared.station.Station.TheVariants.{Free, Uncounted, Counted, Ready}
-use Rattle.floor_model.specs.Floor.{is_uncounted, uncounted, uncounted_to, free_to, all_free}
-use Rattle.floor_model.proofs.Lists.{impossible}
-
-pub free_is : {Op Answer : Type 0} (x : Station Op Answer) → is_free x ≡ true → x ≡ Free
-free_is Free e = refl
-free_is (Uncounted o) e = impossible (cc)
-free_is (Counted o a) e = impossible (cc)
-free_is (Ready o a) e = impossible (cc)
+use Rattle.boards.proofs.Stations.{free_is, exists_within}
+pub use Rattle.boards.proofs.Stations.{all_free_each}
 
 more_same : (b : Bool) (x y : ℕ) → x ≤ suc y → cond b (suc x) x ≤ suc (cond b (suc y) y)
 more_same true x y l = omega arith
@@ -27,12 +19,6 @@ less_same true x y l = omega arith
 less_same false x y l = omega arith
 
 module _ {Model Plain Op Answer : Type 0} (means : Meaning Model Plain Op Answer) where
-  -- a station that exists is one of those numbered from 1
-  pub exists_within : (m : Model) (p : ℕ) → exists means m p ≡ true → (1 ≤ p) × (p ≤ means.stations m)
-  exists_within m p x =
-      let b = and_parts (leb 1 p) (leb p (means.stations m)) x in
-      (leb-true 1 p b.0, leb-true p (means.stations m) b.1)
-
   free_none : (m : Model) (n : ℕ) → free_to means m n ≡ true → uncounted_to means m n ≡ 0
   free_none m zero e = refl
   free_none m (suc n) e =
@@ -42,13 +28,6 @@ module _ {Model Plain Op Answer : Type 0} (means : Meaning Model Plain Op Answer
   -- where every station is free, none waits uncounted
   pub all_free_none : (m : Model) → all_free means m ≡ true → uncounted means m ≡ 0
   all_free_none m e = free_none m (means.stations m) e
-
-  free_each : (m : Model) → ((p : ℕ) → means.station m p ≡ Free) → (n : ℕ) → free_to means m n ≡ true
-  free_each m f zero = refl
-  free_each m f (suc n) = and_from _ _ (ap is_free (f (suc n))) (free_each m f n)
-
-  pub all_free_each : (m : Model) → ((p : ℕ) → means.station m p ≡ Free) → all_free means m ≡ true
-  all_free_each m f = free_each m f (means.stations m)
 
   module _ (m k : Model) where
     abbrev waits_uncounted : Model → ℕ → Bool
@@ -99,7 +78,7 @@ module _ {Model Plain Op Answer : Type 0} (means : Meaning Model Plain Op Answer
 
       pub uncounted_less : exists means m p ≡ true → waits_uncounted m p ≡ true → waits_uncounted k p ≡ false → suc (uncounted means k) ≤ uncounted means m
       uncounted_less x t f =
-          let b = exists_within m p x in
+          let b = exists_within means m p x in
           subst (λ x. suc (uncounted_to means k x) ≤ uncounted_to means m (means.stations m)) (sym keeps.stations)
           (number_less (means.stations m) p b.0 b.1 others t f)
 
@@ -121,7 +100,7 @@ module _ {Model Plain Op Answer : Type 0} (means : Meaning Model Plain Op Answer
       some false i = i
 
   pub uncounted_some : (m : Model) (p : ℕ) → exists means m p ≡ true → is_uncounted (means.station m p) ≡ true → 1 ≤ uncounted means m
-  uncounted_some m p x t = let b = exists_within m p x in number_some m (means.stations m) p b.0 b.1 t
+  uncounted_some m p x t = let b = exists_within means m p x in number_some m (means.stations m) p b.0 b.1 t
 
   pub turned : (m k : Model) (p : ℕ) → KeepsOthers means m k p → KeepsOthers means k m p
   turned m k p x = record { stations = sym x.stations; bound = sym x.bound; station = λ q n. sym (x.station q n) }

@@ -1,9 +1,9 @@
 -- A floor, and what each of its calls does: when the call is sent back, and what it makes of the floor and the ledger when it is taken.
-use Rattle.std.specs.Prelude.{◌≡◌, ℕ, zero, suc, ◌+◌, ◌≤◌, Bool, true, false, cond, not, ◌&&◌, List, length, take, replicate, Some, None, Ok, Err, Option, Result, ◌==◌, nat_le, nat_lt, slice_index, slice_set}
+use Rattle.std.specs.Prelude.{◌≡◌, ℕ, suc, ◌+◌, ◌≤◌, Bool, true, false, cond, not, ◌&&◌, List, length, take, replicate, Some, None, Ok, Err, Option, Result, ◌==◌, nat_le, nat_lt, slice_index, slice_set}
 use Rattle.keys.specs.declared.refusal.Refusal.{Refusal}
 use Rattle.keys.specs.declared.refusal.Refusal.TheVariants.{LedgerLimit, ShortTable, NoSuchStation, NotFree, StillFree, AlreadyReady, StillWaiting, LedgerFull, NoSpace, StationsBusy, ShortList}
 use Rattle.plain_model.specs.Machine.{Machine}
-use Rattle.boards.specs.Board.{Steps, Meaning, is_free, is_waiting, exists, over}
+use Rattle.boards.specs.Board.{Steps, Meaning, is_free, is_waiting, exists, all_free, uncounted, over}
 use Rattle.boards.specs.declared.outcome.Outcome.{Outcome}
 use Rattle.boards.specs.declared.outcome.Outcome.TheVariants as told
 use Rattle.boards.specs.declared.station.Station.{Station}
@@ -32,12 +32,6 @@ with_board f m = record { board = m; limit = f.limit; written = f.written; turns
 
 abbrev pub line : {Op Answer : Type 0} → ℕ → ℕ → Op → Answer → Line Op Answer
 line p t o a = record { station = p; turn = t; operation = o; answer = a }
-
-abbrev pub is_uncounted : {Op Answer : Type 0} → Station Op Answer → Bool
-is_uncounted Free = false
-is_uncounted (Uncounted o) = true
-is_uncounted (Counted o a) = false
-is_uncounted (Ready o a) = false
 
 abbrev pub is_ready : {Op Answer : Type 0} → Station Op Answer → Bool
 is_ready Free = false
@@ -79,34 +73,18 @@ module _ {Model Plain Op Answer : Type 0} (means : Meaning Model Plain Op Answer
   abbrev pub station : Floor Model → ℕ → Station Op Answer
   station f p = means.station f.board p
 
-  -- how many of the stations 1 to n wait uncounted
-  abbrev pub uncounted_to : Model → ℕ → ℕ
-  uncounted_to m zero = 0
-  uncounted_to m (suc n) = cond (is_uncounted (means.station m (suc n))) (suc (uncounted_to m n)) (uncounted_to m n)
-
-  abbrev pub uncounted : Model → ℕ
-  uncounted m = uncounted_to m (means.stations m)
-
-  -- the stations 1 to n are free
-  abbrev pub free_to : Model → ℕ → Bool
-  free_to m zero = true
-  free_to m (suc n) = is_free (means.station m (suc n)) && free_to m n
-
-  abbrev pub all_free : Model → Bool
-  all_free m = free_to m (means.stations m)
-
   -- `lines` is the length of the ledger that goes along, here and at a touch
   abbrev pub open_refusal : Model → (limit lines : ℕ) → Option Refusal
   open_refusal m limit lines =
       refuse_if (not (nat_le 1 limit && nat_le limit 1024)) LedgerLimit
       (refuse_if (nat_lt lines limit) ShortTable
-      (refuse_if (not (all_free m)) NotFree None))
+      (refuse_if (not (all_free means m)) NotFree None))
 
   abbrev pub start_refusal : Floor Model → ℕ → Op → Option Refusal
   start_refusal f p o =
       refuse_if (not (exists means f.board p)) NoSuchStation
       (refuse_if (not (is_free (station f p))) NotFree
-      (refuse_if (f.written + uncounted f.board == f.limit) LedgerFull
+      (refuse_if (f.written + uncounted means f.board == f.limit) LedgerFull
       (refuse_if (not (means.space f.board o)) NoSpace None)))
 
   abbrev pub touch_refusal : Floor Model → ℕ → (lines : ℕ) → Option Refusal
@@ -117,15 +95,19 @@ module _ {Model Plain Op Answer : Type 0} (means : Meaning Model Plain Op Answer
       (refuse_if (not (is_waiting (station f p))) AlreadyReady None)))
 
   abbrev pub close_refusal : Floor Model → Option Refusal
-  close_refusal f = refuse_if (not (all_free f.board)) StationsBusy None
+  close_refusal f = refuse_if (not (all_free means f.board)) StationsBusy None
 
   -- What opening over a sound board with free stations gives and every call keeps: the ledger has a line for every uncounted
   -- station, and no turn is above the number of lines that are written or promised.
   pub record Fits (sound : Model → Type 0) (f : Floor Model) : Type 0 where
     pub sound_board : sound f.board
-    pub fill : f.written + uncounted f.board ≤ f.limit
+    pub fill : f.written + uncounted means f.board ≤ f.limit
     pub turns_room : length f.turns ≡ 17
-    pub low_turns : (p : ℕ) → turn f p ≤ f.written + uncounted f.board
+    pub low_turns : (p : ℕ) → turn f p ≤ f.written + uncounted means f.board
+
+  -- a floor that fits is left fitting
+  abbrev pub StaysFit : (Model → Type 0) → (was left : Floor Model) → Type 0
+  StaysFit sound was left = Fits sound was → Fits sound left
 
 -- What a touch enters into the ledger: the operation of a station that waited uncounted, with the answer told, when the touch told that it counted.
 abbrev pub entry : {Op Answer : Type 0} → Station Op Answer → Outcome → Option Answer → Option (Op × Answer)

@@ -1,3 +1,4 @@
 pub mod Floor
 pub mod History
 pub mod Law
+pub mod Printed

@@ -1,12 +1,11 @@
 // What can be asked of a floor in any phase.
 ghost use Rattle.std.specs.Prelude.{◌≡◌, length, is_ok, if◌then◌else◌, Some, None, MatchResult, nat_le};
 ghost use Rattle.keys.specs.declared.refusal.Refusal.TheVariants.{ShortTable};
-ghost use Rattle.boards.specs.Board.{exists as exists_of};
+ghost use Rattle.boards.specs.Board.{exists};
 ghost use Rattle.floor_model.specs.Floor.{turn as turn_of, written_lines, show as show_of};
 ghost use Rattle.floor.specs.Model.{floor_of};
 
 use crate::floor::Floor;
-use crate::stations::exists;
 use boards::board::Board;
 use floor_model::line::Line;
 use keys::refusal::Refusal;
@@ -35,9 +34,9 @@ impl<B: Board, P> Floor<B, P> {
 
     // How many starts of the station were taken, if there is such a station.
     pub fn turn(&self, station: usize) -> Option<usize>
-        ensures { result ≡ (if exists_of B.means (B.model self.now.board) station then Some (turn_of (floor_of B.model self.now) station) else None) }
+        ensures { result ≡ (if exists B.means (B.model self.now.board) station then Some (turn_of (floor_of B.model self.now) station) else None) }
     {
-        if exists(&self.board, station) {
+        if self.board.exists(station) {
             Some(self.turns[station])
         } else {
             None

@@ -1,10 +1,9 @@
 // The calls of an open floor.
-ghost use Rattle.std.specs.Prelude.{◌≡◌, ◌<◌, ◌≤◌, true, false, length, is_some, is_ok, None, slice_set};
-ghost use Rattle.floor_model.specs.Floor.{Fits, with_board, start_refusal as start_refusal_of, touch_refusal as touch_refusal_of, start as start_of_lem, touch as touch_of, collect as collect_of, entry as entry_of, enter as enter_of};
+ghost use Rattle.std.specs.Prelude.{◌≡◌, ◌<◌, ◌≤◌, true, false, length, is_some, is_ok, Ok};
+ghost use Rattle.floor_model.specs.Floor.{Fits, StaysFit, with_board, checked, start_refusal, touch_refusal, start as start_of_lem, touch as touch_of, collect as collect_of, entry as entry_of, enter as enter_of};
 ghost use Rattle.floor.specs.Model.{floor_of};
 
 use crate::floor::{Floor, Open};
-use crate::stations::{exists, uncounted};
 use boards::board::Board;
 use boards::outcome::Outcome;
 use boards::station::Station;
@@ -17,39 +16,38 @@ impl<B: Board> Floor<B, Open> {
         ensures told { result ≡ (start_of_lem B.steps B.means (floor_of B.model self.old) station op.now).1 }
         ensures back { is_ok result ≡ false → self.new ≡ self.old }
         ensures left { Fits B.means B.sound (floor_of B.model self.old) → floor_of B.model self.new ≡ (start_of_lem B.steps B.means (floor_of B.model self.old) station op.now).0 }
-        ensures fits { Fits B.means B.sound (floor_of B.model self.old) → Fits B.means B.sound (floor_of B.model self.new) }
+        ensures fits { StaysFit B.means B.sound (floor_of B.model self.old) (floor_of B.model self.new) }
     {
-        if let Some(reason) = self.start_refusal(station, op) {
-            return Err(reason);
-        }
+        self.check_start(station, op)?;
         self.begin(station, op);
         Ok(())
     }
 
-    fn start_refusal(&self, station: usize, op: &B::Op) -> Option<Refusal>
-        ensures within { result ≡ None → station < 17 }
-        ensures told { result ≡ start_refusal_of B.means (floor_of B.model self.now) station op.now }
+    // Can the station be handed the operation?
+    fn check_start(&self, station: usize, op: &B::Op) -> Result<(), Refusal>
+        ensures within { is_ok result ≡ true → station < 17 }
+        ensures told { result ≡ checked (start_refusal B.means (floor_of B.model self.now) station op.now) }
     {
-        if !exists(&self.board, station) {
-            return Some(Refusal::NoSuchStation);
+        if !self.board.exists(station) {
+            return Err(Refusal::NoSuchStation);
         }
-        let Station::Free = self.board.station(station) else {
-            return Some(Refusal::NotFree);
-        };
-        if self.written + uncounted(&self.board) == self.limit {
-            return Some(Refusal::LedgerFull);
+        if !self.board.station(station).is_free() {
+            return Err(Refusal::NotFree);
+        }
+        if self.written + self.board.uncounted() == self.limit {
+            return Err(Refusal::LedgerFull);
         }
         if !self.board.space(op) {
-            return Some(Refusal::NoSpace);
+            return Err(Refusal::NoSpace);
         }
-        None
+        Ok(())
     }
 
     // One begin of the board, and the station's next turn.
     fn begin(&mut self, station: usize, op: &B::Op)
         requires { station < 17 }
-        ensures left { start_refusal_of B.means (floor_of B.model self.old) station op.now ≡ None → Fits B.means B.sound (floor_of B.model self.old) → floor_of B.model self.new ≡ (start_of_lem B.steps B.means (floor_of B.model self.old) station op.now).0 }
-        ensures fits { start_refusal_of B.means (floor_of B.model self.old) station op.now ≡ None → Fits B.means B.sound (floor_of B.model self.old) → Fits B.means B.sound (floor_of B.model self.new) }
+        ensures left { checked (start_refusal B.means (floor_of B.model self.old) station op.now) ≡ Ok tt → Fits B.means B.sound (floor_of B.model self.old) → floor_of B.model self.new ≡ (start_of_lem B.steps B.means (floor_of B.model self.old) station op.now).0 }
+        ensures fits { checked (start_refusal B.means (floor_of B.model self.old) station op.now) ≡ Ok tt → StaysFit B.means B.sound (floor_of B.model self.old) (floor_of B.model self.new) }
     {
         let _ = self.board.begin(station, op);
         // on a sound board no turn passes the limit
@@ -65,29 +63,28 @@ impl<B: Board> Floor<B, Open> {
         ensures told { result ≡ (touch_of B.steps B.means (floor_of B.model self.old) station ledger.old).1 }
         ensures back { is_ok result ≡ false → (self.new ≡ self.old) × (ledger.new ≡ ledger.old) }
         ensures left { Fits B.means B.sound (floor_of B.model self.old) → (floor_of B.model self.new, ledger.new) ≡ (touch_of B.steps B.means (floor_of B.model self.old) station ledger.old).0 }
-        ensures fits { Fits B.means B.sound (floor_of B.model self.old) → Fits B.means B.sound (floor_of B.model self.new) }
+        ensures fits { StaysFit B.means B.sound (floor_of B.model self.old) (floor_of B.model self.new) }
     {
-        if let Some(reason) = self.touch_refusal(station, ledger.len()) {
-            return Err(reason);
-        }
+        self.check_touch(station, ledger.len())?;
         Ok(self.step(station, ledger))
     }
 
-    fn touch_refusal(&self, station: usize, lines: usize) -> Option<Refusal>
-        ensures within { result ≡ None → station < 17 }
-        ensures long { result ≡ None → self.now.limit ≤ lines }
-        ensures told { result ≡ touch_refusal_of B.means (floor_of B.model self.now) station lines }
+    // Can the station be touched, with a ledger of so many lines?
+    fn check_touch(&self, station: usize, lines: usize) -> Result<(), Refusal>
+        ensures within { is_ok result ≡ true → station < 17 }
+        ensures long { is_ok result ≡ true → self.now.limit ≤ lines }
+        ensures told { result ≡ checked (touch_refusal B.means (floor_of B.model self.now) station lines) }
     {
         if lines < self.limit {
-            return Some(Refusal::ShortTable);
+            return Err(Refusal::ShortTable);
         }
-        if !exists(&self.board, station) {
-            return Some(Refusal::NoSuchStation);
+        if !self.board.exists(station) {
+            return Err(Refusal::NoSuchStation);
         }
         match self.board.station(station) {
-            Station::Free => Some(Refusal::StillFree),
-            Station::Ready(_, _) => Some(Refusal::AlreadyReady),
-            _ => None,
+            Station::Free => Err(Refusal::StillFree),
+            Station::Ready(_, _) => Err(Refusal::AlreadyReady),
+            Station::Uncounted(_) | Station::Counted(_, _) => Ok(()),
         }
     }
 
@@ -99,8 +96,8 @@ impl<B: Board> Floor<B, Open> {
     ) -> (Outcome, Option<B::Answer>)
         requires { (station < 17) × (self.old.limit ≤ length ledger.old) }
         ensures told { result ≡ (B.steps.touch (B.model self.old.board) station).1 }
-        ensures left { touch_refusal_of B.means (floor_of B.model self.old) station (length ledger.old) ≡ None → Fits B.means B.sound (floor_of B.model self.old) → (floor_of B.model self.new, ledger.new) ≡ (touch_of B.steps B.means (floor_of B.model self.old) station ledger.old).0 }
-        ensures fits { touch_refusal_of B.means (floor_of B.model self.old) station (length ledger.old) ≡ None → Fits B.means B.sound (floor_of B.model self.old) → Fits B.means B.sound (floor_of B.model self.new) }
+        ensures left { checked (touch_refusal B.means (floor_of B.model self.old) station (length ledger.old)) ≡ Ok tt → Fits B.means B.sound (floor_of B.model self.old) → (floor_of B.model self.new, ledger.new) ≡ (touch_of B.steps B.means (floor_of B.model self.old) station ledger.old).0 }
+        ensures fits { checked (touch_refusal B.means (floor_of B.model self.old) station (length ledger.old)) ≡ Ok tt → StaysFit B.means B.sound (floor_of B.model self.old) (floor_of B.model self.new) }
     {
         let was = self.board.station(station);
         let (outcome, answer) = self.board.touch(station);
@@ -121,16 +118,12 @@ impl<B: Board> Floor<B, Open> {
         if let Some((operation, answer)) = counted {
             if self.written < self.limit {
                 let turn = self.turns[station];
-                put(
-                    ledger,
-                    self.written,
-                    Line {
-                        station,
-                        turn,
-                        operation,
-                        answer,
-                    },
-                );
+                ledger[self.written] = Line {
+                    station,
+                    turn,
+                    operation,
+                    answer,
+                };
                 self.written += 1;
             }
         }
@@ -141,15 +134,14 @@ impl<B: Board> Floor<B, Open> {
         ensures told { result ≡ (collect_of B.steps B.means (floor_of B.model self.old) station).1 }
         ensures back { is_ok result ≡ false → self.new ≡ self.old }
         ensures left { floor_of B.model self.new ≡ (collect_of B.steps B.means (floor_of B.model self.old) station).0 }
-        ensures fits { Fits B.means B.sound (floor_of B.model self.old) → Fits B.means B.sound (floor_of B.model self.new) }
+        ensures fits { StaysFit B.means B.sound (floor_of B.model self.old) (floor_of B.model self.new) }
     {
-        if !exists(&self.board, station) {
+        if !self.board.exists(station) {
             return Err(Refusal::NoSuchStation);
         }
         match self.board.station(station) {
             Station::Free => Err(Refusal::StillFree),
-            Station::Uncounted(_) => Err(Refusal::StillWaiting),
-            Station::Counted(_, _) => Err(Refusal::StillWaiting),
+            Station::Uncounted(_) | Station::Counted(_, _) => Err(Refusal::StillWaiting),
             Station::Ready(_, answer) => {
                 self.release(station);
                 Ok(answer)
@@ -160,7 +152,7 @@ impl<B: Board> Floor<B, Open> {
     // One release of the board.
     fn release(&mut self, station: usize)
         ensures left { floor_of B.model self.new ≡ with_board (floor_of B.model self.old) (B.steps.release (B.model self.old.board) station) }
-        ensures fits { Fits B.means B.sound (floor_of B.model self.old) → Fits B.means B.sound (floor_of B.model self.new) }
+        ensures fits { StaysFit B.means B.sound (floor_of B.model self.old) (floor_of B.model self.new) }
     {
         self.board.release(station);
     }
@@ -174,22 +166,9 @@ fn entry<O: Copy, R: Copy>(
 ) -> Option<(O, R)>
     ensures { result ≡ entry_of was outcome answer }
 {
-    let Station::Uncounted(operation) = was else {
-        return None;
-    };
-    let Some(told) = answer else {
-        return None;
-    };
-    match outcome {
-        Outcome::Counted | Outcome::CountedReady => Some((operation, told)),
+    match (was, outcome, answer) {
+        (Station::Uncounted(operation), Outcome::Counted | Outcome::CountedReady, Some(told)) =>
+            Some((operation, told)),
         _ => None,
     }
-}
-
-// Writes an element at a place of a slice.
-fn put<T: Drop>(slice: &mut [T], place: usize, element: T)
-    requires { place < length slice.old }
-    ensures { slice.new ≡ slice_set slice.old place element }
-{
-    slice[place] = element;
 }

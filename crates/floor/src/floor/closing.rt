@@ -4,7 +4,6 @@ ghost use Rattle.floor_model.specs.Floor.{checked, close_refusal};
 ghost use Rattle.floor.specs.Model.{floor_of};
 
 use crate::floor::{Closed, Floor, Open};
-use crate::stations::all_free;
 use boards::board::Board;
 use keys::refusal::Refusal;
 
@@ -13,7 +12,7 @@ impl<B: Board> Floor<B, Open> {
     pub fn check_close(&self) -> Result<(), Refusal>
         ensures { result ≡ checked (close_refusal B.means (floor_of B.model self.now)) }
     {
-        if !all_free(&self.board) {
+        if !self.board.all_free() {
             return Err(Refusal::StationsBusy);
         }
         Ok(())

@@ -1,11 +1,11 @@
 // Opening a floor: a check that moves nothing, and an opening that cannot refuse.
 ghost use Rattle.std.specs.Prelude.{◌≡◌, ◌≤◌, true, length};
-ghost use Rattle.floor_model.specs.Floor.{Fits, opened, checked, all_free as all_free_of, open_refusal};
+ghost use Rattle.boards.specs.Board.{all_free};
+ghost use Rattle.floor_model.specs.Floor.{Fits, opened, checked, open_refusal};
 ghost use Rattle.floor_model.specs.Law.{Opening};
 ghost use Rattle.floor.specs.Model.{floor_of};
 
 use crate::floor::{Floor, Open};
-use crate::stations::all_free;
 use boards::board::Board;
 use floor_model::line::Line;
 use keys::refusal::Refusal;
@@ -19,13 +19,13 @@ impl<B: Board> Floor<B, Open> {
     ) -> Result<(), Refusal>
         ensures { result ≡ checked (open_refusal B.means (B.model board.now) limit (length ledger.now)) }
     {
-        if limit < 1 || limit > 1024 {
+        if !(1..=1024).contains(&limit) {
             return Err(Refusal::LedgerLimit);
         }
         if ledger.len() < limit {
             return Err(Refusal::ShortTable);
         }
-        if !all_free(board) {
+        if !board.all_free() {
             return Err(Refusal::NotFree);
         }
         Ok(())
@@ -36,7 +36,7 @@ impl<B: Board> Floor<B, Open> {
         requires { (1 ≤ limit) × (limit ≤ 1024) }
         ensures over { result.board ≡ board }
         ensures left { floor_of B.model result ≡ opened (B.model board) limit }
-        ensures fits { B.sound (B.model board) → all_free_of B.means (B.model board) ≡ true → Fits B.means B.sound (floor_of B.model result) }
+        ensures fits { B.sound (B.model board) → all_free B.means (B.model board) ≡ true → Fits B.means B.sound (floor_of B.model result) }
         ensures law { Opening B.plain B.steps B.means B.sound (floor_of B.model result) }
     {
         lawful(Floor {
@@ -53,7 +53,7 @@ impl<B: Board> Floor<B, Open> {
 fn lawful<B: Board>(floor: Floor<B, Open>) -> Floor<B, Open>
     requires { floor_of B.model floor ≡ opened (B.model floor.board) floor.limit }
     ensures same { result ≡ floor }
-    ensures fits { B.sound (B.model floor.board) → all_free_of B.means (B.model floor.board) ≡ true → Fits B.means B.sound (floor_of B.model result) }
+    ensures fits { B.sound (B.model floor.board) → all_free B.means (B.model floor.board) ≡ true → Fits B.means B.sound (floor_of B.model result) }
     ensures law { Opening B.plain B.steps B.means B.sound (floor_of B.model result) }
 {
     floor

@@ -7,11 +7,12 @@ mod tests {
     use boards::outcome::Outcome;
     use floor::{ClosedFloor, OpenFloor};
     use floor_model::line::Line;
+    use keys::piece_code::PieceCode;
     use keys::refusal::Refusal;
     use line_model::node::Node;
     use line_model::seat::Seat;
     use pair::pair::Pair;
-    use plain_model::line_op::LineOp;
+    use plain_model::line_op::{LineAnswer, LineOp};
     use plain_model::side::Side;
     use std::process::Abort;
     use std::test::Fail;
@@ -170,6 +171,19 @@ mod tests {
         let mut list = [Side::First(1); 3];
         assert_eq!(rt; floor.show(&mut list), Ok(()));
         assert_eq!(rt; list, [Side::First(7), Side::Second(8), Side::First(1)]);
+    }
+
+    // A line of a ledger prints as an entry, its station before its turn.
+    #[test]
+    fn lines_print(rt: HostRuntime) -> Result<(), Fail> {
+        let line = Line {
+            station: 2,
+            turn: 1,
+            operation: LineOp::<PieceCode>::Take,
+            answer: LineAnswer::<PieceCode>::Empty,
+        };
+        assert!(rt; line.to_string(rt.alloc())?.as_str() == "(entry 2 1 (take) (empty))");
+        Ok(())
     }
 
     // A line with one node has no space for a second put, and has for a take.

@@ -1,6 +1,7 @@
 -- The cell keeps the laws of a board: what each call does, by what the station is doing, and then law by law.
 use Rattle.std.specs.Prelude.{◌≡◌, ℕ, ◌<◌, Bool, true, false, ◌&&◌, length, get_or, Some, None, ◌≢◌, nat_le, slice_index_or, refl}
 use Rattle.std.proofs.Common.{sym, ap, ◌∙◌, subst, ⊎_elim, arith, length-set, get_or-set_same, get_or-set_other}
+use Rattle.std.proofs.Math.Bool.{and-true}
 use Rattle.std.proofs.lemmas.Bool.{and_parts, cases_eq, cases_Bool, leb-true, both_ways}
 use Rattle.boards.specs.Board.{is_free, is_waiting, exists}
 use Rattle.boards.specs.Laws.{Laws, KeepsOthers, Touched, counts_ready, readies}
@@ -135,10 +136,6 @@ taken m p = exists cell_means m p && is_free (slice_index_or m.table p Free)
 taken_exists : (m : Cell) (p : ℕ) → taken m p ≡ true → exists cell_means m p ≡ true
 taken_exists m p e = (and_parts (exists cell_means m p) (is_free (slice_index_or m.table p Free)) e).0
 
-and_true : (b : Bool) → b ≡ (b && true)
-and_true true = refl
-and_true false = refl
-
 begins : (m : Cell) (ok : Sound m) (p o : ℕ) → Begun m ok p o (taken m p)
 begins m ok p o = begun m ok p o (taken m p) (taken_exists m p)
 
@@ -147,7 +144,7 @@ cell_laws = record {
   some_stations = λ m ok. ok.some;
   few_stations = λ m ok. ok.few;
   missing_free = λ m p ok. ok.missing p;
-  begin_taken = λ m p o ok. (begins m ok p o).told ∙ ap (λ x. exists cell_means m p && x) (and_true (is_free (slice_index_or m.table p Free)));
+  begin_taken = λ m p o ok. (begins m ok p o).told ∙ ap (λ x. exists cell_means m p && x) (sym (and-true (is_free (slice_index_or m.table p Free))));
   begin_refused = λ m p o ok. (begins m ok p o).refused;
   begin_waits = λ m p o ok. (begins m ok p o).waits;
   begin_others = λ m p o ok. (begins m ok p o).others;

@@ -10,6 +10,8 @@ use boards::station::Station;
 use floor_model::line::Line;
 use keys::refusal::Refusal;
 
+// That a floor which fits is left fitting is a clause of each call and no invariant of the type: a floor may be opened over
+// a board that is not sound or not free.
 impl<B: Board> Floor<B, Open> {
     // Hands an operation to a free station.
     pub fn start(&mut self, station: usize, op: &B::Op) -> Result<(), Refusal>

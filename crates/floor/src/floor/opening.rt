@@ -39,22 +39,12 @@ impl<B: Board> Floor<B, Open> {
         ensures fits { B.sound (B.model board) → all_free B.means (B.model board) ≡ true → Fits B.means B.sound (floor_of B.model result) }
         ensures law { Opening B.plain B.steps B.means B.sound (floor_of B.model result) }
     {
-        lawful(Floor {
+        Floor {
             board,
             limit,
             written: 0,
             turns: [0; 17],
             phase: Open,
-        })
+        }
     }
-}
-
-// A floor just opened, as it is: what holds of it and of every list of calls that follow.
-fn lawful<B: Board>(floor: Floor<B, Open>) -> Floor<B, Open>
-    requires { floor_of B.model floor ≡ opened (B.model floor.board) floor.limit }
-    ensures same { result ≡ floor }
-    ensures fits { B.sound (B.model floor.board) → all_free B.means (B.model floor.board) ≡ true → Fits B.means B.sound (floor_of B.model result) }
-    ensures law { Opening B.plain B.steps B.means B.sound (floor_of B.model result) }
-{
-    floor
 }

@@ -41,8 +41,7 @@ pub trait Board {
         ensures told { result ≡ (steps.begin (model self.old) station op.now).1 }
         ensures left { model self.new ≡ (steps.begin (model self.old) station op.now).0 };
 
-    // Does one atomic step of the station's operation. By a rule of the boards the answer stands beside the outcome, as an
-    // option of its own.
+    // Does one atomic step of the station's operation. By a rule of the boards the answer stands beside the outcome.
     fn touch(&mut self, station: usize) -> (Outcome, Option<Self::Answer>)
         ensures told { result ≡ (steps.touch (model self.old) station).1 }
         ensures left { model self.new ≡ (steps.touch (model self.old) station).0 };

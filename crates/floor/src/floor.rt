@@ -16,11 +16,12 @@ pub struct Open;
 #[derive(Clone, Copy)]
 pub struct Closed;
 
-// A board with a ledger of `limit` lines, of which the first `written` are written. The ledger itself is the host's,
-// and goes along with each touch, so the number of its written lines stands here. A station's turn, which is the number of its taken starts, stands in `turns` at the
-// station's number; place 0 is no station's, and there are as many places as there can be stations, since an opening
-// that cannot fail takes no memory. Operations and answers stand on the board alone. The phase is part of the
-// type, and a call that leads to another phase takes the floor itself: no floor is touched or closed once it is closed.
+// A board with a ledger of `limit` lines, of which the first `written` are written. The ledger itself is the host's and
+// goes along with each touch, so the number of its written lines stands here. A station's turn, which is the number of
+// its taken starts, stands in `turns` at the station's number; place 0 is no station's, and there are as many places as
+// there can be stations, since an opening that cannot fail takes no memory. Operations and answers stand on the board
+// alone. The phase is part of the type, and a call that leads to another phase takes the floor itself: no floor is
+// touched or closed once it is closed.
 #[derive(Drop)]
 pub struct Floor<B: Board, P> {
     board: B,

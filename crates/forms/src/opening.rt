@@ -1,26 +1,24 @@
 // Reading the form that opens a floor.
-ghost use Rattle.std.specs.Prelude.{◌≡◌, map};
-ghost use Rattle.lex.specs.Runs.{lexeme};
+ghost use Rattle.std.specs.Prelude.{◌≡◌};
 ghost use Rattle.forms_model.specs.Reading.{Took, Tells};
-ghost use Rattle.forms_model.specs.Openings.{kind_of, opening_body, opening_at, opening_of, line_opening};
+ghost use Rattle.forms_model.specs.Openings.{kind_of, opening_body, opening_at, line_opening};
 ghost use Rattle.reader.specs.Reader.{left};
 
+use crate::form::{Form, line_form};
 use forms_model::opening::{Kind, Opening};
-use lex::fault::{Fault, FaultKind, Stop};
-use lex::token::Token;
-use lex::tokens::tokens;
-use reader::{Reader, spells};
+use lex::fault::Stop;
+use lex::line::ScriptLine;
+use reader::Reader;
 use std::alloc::Global;
 
+// The kind that a word names. It is no `TryFrom`: the error would carry nothing, and the caller would drop it.
 fn kind(name: &[u8]) -> Option<Kind>
     ensures { result ≡ kind_of name.now }
 {
-    if spells(name, b"cutting") {
-        Some(Kind::Cutting)
-    } else if spells(name, b"pattern") {
-        Some(Kind::Pattern)
-    } else {
-        None
+    match name {
+        b"cutting" => Some(Kind::Cutting),
+        b"pattern" => Some(Kind::Pattern),
+        _ => None,
     }
 }
 
@@ -52,26 +50,19 @@ fn opening(reader: &mut Reader<'_, '_>) -> Option<Opening>
     opening_body(kind, reader)
 }
 
-// The opening that all tokens of a line are.
-fn whole_opening(tokens: &[Token<'_>]) -> Option<Opening>
-    ensures { result ≡ opening_of (map lexeme tokens.now) }
-{
-    let mut reader = Reader { rest: tokens };
-    let opening = opening(&mut reader)?;
-    reader.finish(opening)
+impl Form for Opening {
+    type Value = Opening;
+
+    ghost at = { opening_at };
+
+    fn read(reader: &mut Reader<'_, '_>) -> Option<Opening> {
+        opening(reader)
+    }
 }
 
-// The opening in a line of that number, or the line's fault.
-pub fn line_opening(heap: Global, line: &[u8], number: usize) -> Result<Opening, Stop>
-    ensures { Tells result (line_opening number line.now) }
+// The opening in a line, or the line's fault.
+pub fn line_opening(heap: Global, line: ScriptLine<'_>) -> Result<Opening, Stop>
+    ensures { Tells result (line_opening line.entry.number line.entry.bytes.now) }
 {
-    let tokens = tokens(heap, line, number)?;
-    match whole_opening(tokens.as_slice()) {
-        Some(opening) => Ok(opening),
-        None => Err(Stop::Faulty(Fault {
-            kind: FaultKind::NoForm,
-            line: number,
-            byte: 1,
-        })),
-    }
+    line_form::<Opening>(heap, line)
 }

@@ -9,27 +9,23 @@ use keys::refusal::Refusal;
 use plain_model::line_op::LineOp;
 use plain_model::nest_op::NestOp;
 use plain_model::side::Side;
-use reader::{Reader, spells};
+use reader::Reader;
 use trades::trade::Trade;
 
 // An operation of a floor: of its nest or of its line.
 pub type Operation<K, E> = Side<NestOp<K>, LineOp<E>>;
 
+// The verb that a word names. It is no `TryFrom`: the error would carry nothing, and the caller would drop it.
 fn verb(name: &[u8]) -> Option<Verb>
     ensures { result ≡ verb_of name.now }
 {
-    if spells(name, b"add") {
-        Some(Verb::Nest(NestVerb::Add))
-    } else if spells(name, b"drop") {
-        Some(Verb::Nest(NestVerb::Drop))
-    } else if spells(name, b"find") {
-        Some(Verb::Nest(NestVerb::Find))
-    } else if spells(name, b"put") {
-        Some(Verb::Put)
-    } else if spells(name, b"take") {
-        Some(Verb::Take)
-    } else {
-        None
+    match name {
+        b"add" => Some(Verb::Nest(NestVerb::Add)),
+        b"drop" => Some(Verb::Nest(NestVerb::Drop)),
+        b"find" => Some(Verb::Nest(NestVerb::Find)),
+        b"put" => Some(Verb::Put),
+        b"take" => Some(Verb::Take),
+        _ => None,
     }
 }
 
@@ -48,17 +44,11 @@ fn operation_body<T: Trade>(
     verb: Verb,
     reader: &mut Reader<'_, '_>,
 ) -> Option<Result<Operation<T::Key, T::Element>, Refusal>>
-    ensures { Took (λ x. x) result (operation_body T.Trade.key_at T.Trade.element_at verb (left reader.old)) (left reader.new) }
+    ensures { Took (λ x. x) result (operation_body T.rules verb (left reader.old)) (left reader.new) }
 {
     Some(match verb {
-        Verb::Nest(verb) => match T::key(reader)? {
-            Ok(key) => Ok(Side::First(asked(verb, key))),
-            Err(refusal) => Err(refusal),
-        },
-        Verb::Put => match T::element(reader)? {
-            Ok(element) => Ok(Side::Second(LineOp::Put(element))),
-            Err(refusal) => Err(refusal),
-        },
+        Verb::Nest(verb) => T::key(reader)?.map(|key| Side::First(asked(verb, key))),
+        Verb::Put => T::element(reader)?.map(|element| Side::Second(LineOp::Put(element))),
         Verb::Take => Ok(Side::Second(LineOp::Take)),
     })
 }
@@ -67,7 +57,7 @@ fn operation_body<T: Trade>(
 pub fn operation<T: Trade>(
     reader: &mut Reader<'_, '_>,
 ) -> Option<Result<Operation<T::Key, T::Element>, Refusal>>
-    ensures { Took (λ x. x) result (operation_at T.Trade.key_at T.Trade.element_at (left reader.old)) (left reader.new) }
+    ensures { Took (λ x. x) result (operation_at T.rules (left reader.old)) (left reader.new) }
 {
     reader.open()?;
     let verb = verb(reader.word()?)?;

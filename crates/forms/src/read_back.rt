@@ -8,6 +8,6 @@ use trades::trade::Trade;
 // States, for any trade, that the printed text of every operation reads back to that operation: wherever it stands in
 // a line, and as all that a line has. There is nothing to run.
 pub fn operations_read_back<T: Trade>()
-    ensures anywhere { ReadsBack (side_text (nest_op_text T.Key.bytes) (line_op_text T.Element.bytes)) (operation_at T.Trade.key_at T.Trade.element_at) }
-    ensures alone { ReadsBackAlone (side_text (nest_op_text T.Key.bytes) (line_op_text T.Element.bytes)) (operation_at T.Trade.key_at T.Trade.element_at) }
+    ensures anywhere { ReadsBack (side_text (nest_op_text T.Key.bytes) (line_op_text T.Element.bytes)) (operation_at T.rules) }
+    ensures alone { ReadsBackAlone (side_text (nest_op_text T.Key.bytes) (line_op_text T.Element.bytes)) (operation_at T.rules) }
 {}

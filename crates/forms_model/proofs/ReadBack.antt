@@ -1,9 +1,10 @@
 -- Every printed key, element and operation reads back to itself.
 use Rattle.std.proofs.Common.{◌≡◌, ℕ, ◌+◌, ◌<◌, true, List, [], ◌∷◌, ◌++◌, length, Some, Ok, codes, decimal, Option, Result, sym, refl, ap, ◌∙◌, append_assoc, append-nil, arith}
+use Rattle.std.specs.Str.{bytes_eq}
 use Rattle.std.specs.Char.{is_ascii_alphabetic, is_ascii_uppercase}
 use Rattle.std.proofs.lemmas.Bool.Decides.{nat_tests}
 use Rattle.lex.specs.Runs.{Lexeme, opening, closing, word, number}
-use Rattle.lex.specs.Tokens.{placed, tokens_of}
+use Rattle.lex.specs.Tokens.{placed}
 use Rattle.keys.specs.Elements.{cut_ticket, ticket_text, plot_order, order_text}
 use Rattle.keys.specs.Pieces.{piece_code, piece_text}
 use Rattle.keys.specs.Ranges.{wearable, catalogued, spreadable, plottable}
@@ -13,7 +14,6 @@ use Rattle.keys.specs.declared.refusal.Refusal.{Refusal}
 use Rattle.keys.specs.declared.size_label.LetterSize.{LetterSize}
 use Rattle.keys.specs.declared.size_label.LetterSize.TheVariants.{Xs, S, M, L, Xl, Xxl}
 use Rattle.keys.specs.declared.size_label.WaistSize.{WaistSize}
-use Rattle.keys.specs.declared.size_label.SizeLabel.{SizeLabel}
 use Rattle.keys.specs.declared.size_label.SizeLabel.TheVariants.{Letter, Waist}
 use Rattle.keys.specs.declared.piece_code.PieceCode.{PieceCode}
 use Rattle.keys.specs.declared.cut_ticket.CutTicket.{CutTicket}
@@ -26,10 +26,12 @@ use Rattle.forms_model.specs.declared.verb.NestVerb.{NestVerb}
 use Rattle.forms_model.specs.declared.verb.NestVerb.TheVariants.{Add, Drop, Find}
 use Rattle.forms_model.specs.declared.verb.Verb.{Verb}
 use Rattle.forms_model.specs.declared.verb.Verb.TheVariants.{Nest}
-use Rattle.forms_model.specs.Reading.{Parsed, and_then, or_none, number_at, close_at, if_made, whole, form_of, or_no_form}
+use Rattle.forms_model.specs.Reading.{Parsed, and_then, or_none, number_at, close_at, if_made, whole, whole_of, form_of, line_form, or_no_form}
+use Rattle.forms_model.specs.Rules.{Rules}
+use Rattle.forms_model.specs.Counted.{counted_of, made_at}
 use Rattle.forms_model.specs.Operations.{verb_of, asked, operation_body, operation_at}
-use Rattle.forms_model.specs.Cutting.{letter_of, size_at, ticket_of, ticket_at}
-use Rattle.forms_model.specs.Pattern.{piece_at, order_of, order_at}
+use Rattle.forms_model.specs.Cutting.{letter_of, size_at, ticket_at}
+use Rattle.forms_model.specs.Pattern.{piece_at, order_at}
 use Rattle.forms_model.specs.ReadBack.{Lexes, ReadsBack, ReadsBackAlone}
 use Rattle.forms_model.proofs.Lexing.{LexesRun, lexes_open, lexes_close, lexes_space, lexes_append, lexes_run_append, lexes_word, lexes_number}
 
@@ -131,6 +133,21 @@ module _ {A : Type 0} (text : A → List ℕ) (at : List Lexeme → Parsed (Resu
   inner_read : (ends after : List Lexeme) → at ((inner ++ ends) ++ after) ≡ Some (Ok x, ends ++ after)
   inner_read ends after = ap at (append_assoc inner ends after) ∙ (back x l inside).2 (ends ++ after)
 
+-- an element that is made of a key and a count
+module _ {K E : Type 0} (text : K → List ℕ) (at : List Lexeme → Parsed (Result K Refusal)) (back : ReadsBack text at) (made : K → ℕ → Result E Refusal) (b : ℕ) (bs : List ℕ)
+    (named : (l i : ℕ) → LexesRun l i (b ∷ bs) (word (b ∷ bs) (placed l i) ∷ [])) (same : bytes_eq (b ∷ bs) (b ∷ bs) ≡ true) where
+  counted_reads_back : (k : K) (n : ℕ) (x : E) → n < 100000 → made k n ≡ Ok x → (l i : ℕ) →
+      (tokens : List Lexeme) × Lexes l i (40 ∷ ((b ∷ bs) ++ (32 ∷ (text k ++ (32 ∷ (decimal n ++ (41 ∷ []))))))) tokens × ((after : List Lexeme) → made_at (b ∷ bs) at made (tokens ++ after) ≡ Some (Ok x, after))
+  counted_reads_back k n x small is l i =
+      let ends : List Lexeme = count_ends text at back l i b bs (named l (i + 1)) k n in (
+        around text at back l i b bs (named l (i + 1)) k ends,
+        count_lexes text at back l i b bs (named l (i + 1)) k n small,
+        λ after. rw same
+            (ap (λ (r : Parsed (Result K Refusal)). and_then {A = Result K Refusal × ℕ} (and_then {B = Result K Refusal × ℕ} r (λ key xs. and_then (number_at xs) (λ count xs. and_then (close_at xs) (λ _ xs. Some ((key, count), xs))))) (λ counted xs. Some (counted_of made counted.0 counted.1, xs)))
+            (inner_read text at back l i b bs (named l (i + 1)) k ends after)
+            ∙ ap (λ (r : Result E Refusal). Some (r, after)) is),
+      )
+
 plies_small : (plies : ℕ) → spreadable plies ≡ true → plies < 100000
 plies_small plies e = grind (arith, nat_tests)
 
@@ -138,15 +155,9 @@ ticket_made : (t : CutTicket) → cut_ticket t.size t.plies ≡ Ok t
 ticket_made t = sym (if_so_lem (spreadable t.plies) _ _ t.fits)
 
 pub ticket_reads_back : ReadsBack ticket_text ticket_at
-ticket_reads_back t l i =
+ticket_reads_back t =
     let bs : List ℕ = 105 ∷ 99 ∷ 107 ∷ 101 ∷ 116 ∷ [] in
-    let named = lexes_word l (i + 1) 116 bs refl refl refl in (
-      around size_text size_at size_reads_back l i 116 bs named t.size (count_ends size_text size_at size_reads_back l i 116 bs named t.size t.plies),
-      count_lexes size_text size_at size_reads_back l i 116 bs named t.size t.plies (plies_small t.plies t.fits),
-      λ after. ap (λ (r : Parsed (Result SizeLabel Refusal)). and_then r (λ size xs. and_then (number_at xs) (λ plies xs. and_then (close_at xs) (λ _ xs. Some (ticket_of size plies, xs)))))
-          (inner_read size_text size_at size_reads_back l i 116 bs named t.size (count_ends size_text size_at size_reads_back l i 116 bs named t.size t.plies) after)
-          ∙ ap (λ (r : Result CutTicket Refusal). Some (r, after)) (ticket_made t),
-    )
+    counted_reads_back size_text size_at size_reads_back cut_ticket 116 bs (λ l i. lexes_word l i 116 bs refl refl refl) refl t.size t.plies t (plies_small t.plies t.fits) (ticket_made t)
 
 piece_made : (p : PieceCode) → piece_code p.letter p.number ≡ Ok p
 piece_made p = sym (if_so_lem (catalogued p.letter p.number) _ _ p.fits)
@@ -182,42 +193,35 @@ order_made : (o : PlotOrder) → plot_order o.piece o.copies ≡ Ok o
 order_made o = sym (if_so_lem (plottable o.copies) _ _ o.fits)
 
 pub order_reads_back : ReadsBack order_text order_at
-order_reads_back o l i =
+order_reads_back o =
     let bs : List ℕ = 114 ∷ 100 ∷ 101 ∷ 114 ∷ [] in
-    let named = lexes_word l (i + 1) 111 bs refl refl refl in (
-      around piece_text piece_at piece_reads_back l i 111 bs named o.piece (count_ends piece_text piece_at piece_reads_back l i 111 bs named o.piece o.copies),
-      count_lexes piece_text piece_at piece_reads_back l i 111 bs named o.piece o.copies (copies_small o.copies o.fits),
-      λ after. ap (λ (r : Parsed (Result PieceCode Refusal)). and_then r (λ piece xs. and_then (number_at xs) (λ copies xs. and_then (close_at xs) (λ _ xs. Some (order_of piece copies, xs)))))
-          (inner_read piece_text piece_at piece_reads_back l i 111 bs named o.piece (count_ends piece_text piece_at piece_reads_back l i 111 bs named o.piece o.copies) after)
-          ∙ ap (λ (r : Result PlotOrder Refusal). Some (r, after)) (order_made o),
-    )
+    counted_reads_back piece_text piece_at piece_reads_back plot_order 111 bs (λ l i. lexes_word l i 111 bs refl refl refl) refl o.piece o.copies o (copies_small o.copies o.fits) (order_made o)
 
 -- Operations read back wherever keys and elements do.
-module _ {K E : Type 0} (key_text : K → List ℕ) (element_text : E → List ℕ) (key_at : List Lexeme → Parsed (Result K Refusal)) (element_at : List Lexeme → Parsed (Result E Refusal))
-    (keys : ReadsBack key_text key_at) (elements : ReadsBack element_text element_at) where
+module _ {K E : Type 0} (key_text : K → List ℕ) (element_text : E → List ℕ) (rules : Rules K E) (keys : ReadsBack key_text rules.key_at) (elements : ReadsBack element_text rules.element_at) where
   key_form : (verb : NestVerb) (l i b : ℕ) (bs : List ℕ) (k : K) → verb_of (b ∷ bs) ≡ Some (Nest verb) → LexesRun l (i + 1) (b ∷ bs) (word (b ∷ bs) (placed l (i + 1)) ∷ []) →
-      (tokens : List Lexeme) × Lexes l i (40 ∷ ((b ∷ bs) ++ (32 ∷ (key_text k ++ (41 ∷ []))))) tokens × ((after : List Lexeme) → operation_at key_at element_at (tokens ++ after) ≡ Some (Ok (First (asked verb k)), after))
+      (tokens : List Lexeme) × Lexes l i (40 ∷ ((b ∷ bs) ++ (32 ∷ (key_text k ++ (41 ∷ []))))) tokens × ((after : List Lexeme) → operation_at rules (tokens ++ after) ≡ Some (Ok (First (asked verb k)), after))
   key_form verb l i b bs k is named =
-      let ends : List Lexeme = close_ends key_text key_at keys l i b bs named k in (
-        around key_text key_at keys l i b bs named k ends,
-        close_lexes key_text key_at keys l i b bs named k,
-        λ after. ap (λ (o : Option Verb). and_then (or_none o ((inner key_text key_at keys l i b bs named k ++ ends) ++ after)) (λ verb xs. and_then (operation_body key_at element_at verb xs) (λ operation xs. and_then (close_at xs) (λ _ xs. Some (operation, xs))))) is
+      let ends : List Lexeme = close_ends key_text rules.key_at keys l i b bs named k in (
+        around key_text rules.key_at keys l i b bs named k ends,
+        close_lexes key_text rules.key_at keys l i b bs named k,
+        λ after. ap (λ (o : Option Verb). and_then (or_none o ((inner key_text rules.key_at keys l i b bs named k ++ ends) ++ after)) (λ verb xs. and_then (operation_body rules verb xs) (λ operation xs. and_then (close_at xs) (λ _ xs. Some (operation, xs))))) is
             ∙ ap (λ (r : Parsed (Result K Refusal)). and_then (and_then r (λ key xs. Some (if_made (λ x. Ok (First (asked verb x))) key, xs))) (λ operation xs. and_then (close_at xs) (λ _ xs. Some (operation, xs))))
-            (inner_read key_text key_at keys l i b bs named k ends after),
+            (inner_read key_text rules.key_at keys l i b bs named k ends after),
       )
 
-  pub operation_reads_back : ReadsBack (side_text (nest_op_text key_text) (line_op_text element_text)) (operation_at key_at element_at)
+  pub operation_reads_back : ReadsBack (side_text (nest_op_text key_text) (line_op_text element_text)) (operation_at rules)
   operation_reads_back (First (nest.Add k)) l i = key_form Add l i 97 (100 ∷ 100 ∷ []) k refl (lexes_word l (i + 1) 97 (100 ∷ 100 ∷ []) refl refl refl)
   operation_reads_back (First (nest.Drop k)) l i = key_form Drop l i 100 (114 ∷ 111 ∷ 112 ∷ []) k refl (lexes_word l (i + 1) 100 (114 ∷ 111 ∷ 112 ∷ []) refl refl refl)
   operation_reads_back (First (nest.Find k)) l i = key_form Find l i 102 (105 ∷ 110 ∷ 100 ∷ []) k refl (lexes_word l (i + 1) 102 (105 ∷ 110 ∷ 100 ∷ []) refl refl refl)
   operation_reads_back (Second (line.Put e)) l i =
       let bs : List ℕ = 117 ∷ 116 ∷ [] in
       let named = lexes_word l (i + 1) 112 bs refl refl refl in
-      let ends : List Lexeme = close_ends element_text element_at elements l i 112 bs named e in (
-        around element_text element_at elements l i 112 bs named e ends,
-        close_lexes element_text element_at elements l i 112 bs named e,
+      let ends : List Lexeme = close_ends element_text rules.element_at elements l i 112 bs named e in (
+        around element_text rules.element_at elements l i 112 bs named e ends,
+        close_lexes element_text rules.element_at elements l i 112 bs named e,
         λ after. ap (λ (r : Parsed (Result E Refusal)). and_then (and_then r (λ element xs. Some (if_made (λ x. Ok (Second (line.Put x))) element, xs))) (λ operation xs. and_then (close_at xs) (λ _ xs. Some (operation, xs))))
-            (inner_read element_text element_at elements l i 112 bs named e ends after),
+            (inner_read element_text rules.element_at elements l i 112 bs named e ends after),
       )
   operation_reads_back (Second line.Take) l i =
       let bs : List ℕ = 97 ∷ 107 ∷ 101 ∷ [] in (
@@ -231,6 +235,6 @@ module _ {K E : Type 0} (key_text : K → List ℕ) (element_text : E → List �
 pub reads_back_alone : {A : Type 0} (text : A → List ℕ) (at : List Lexeme → Parsed (Result A Refusal)) → ReadsBack text at → ReadsBackAlone text at
 reads_back_alone text at back x l =
     let b = back x l 1 in
-    ap (λ bytes. form_of (λ tokens. whole (at tokens)) l (tokens_of l bytes)) (sym (append-nil (text x)))
-    ∙ ap (form_of (λ tokens. whole (at tokens)) l) (b.1 [])
+    ap (line_form at l) (sym (append-nil (text x)))
+    ∙ ap (form_of (whole_of at) l) (b.1 [])
     ∙ ap (λ r. or_no_form l (whole r)) (b.2 [])

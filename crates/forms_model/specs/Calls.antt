@@ -2,14 +2,13 @@
 use Rattle.std.specs.Prelude.{ℕ, cond, List, Some, None, codes, Option, Result}
 use Rattle.std.specs.Str.{bytes_eq}
 use Rattle.lex.specs.Runs.{Lexeme}
-use Rattle.lex.specs.Tokens.{tokens_of}
 use Rattle.lex.specs.declared.fault.Fault.{Fault}
 use Rattle.keys.specs.declared.refusal.Refusal.{Refusal}
 use Rattle.forms_model.specs.declared.call.Call.{Call}
 use Rattle.forms_model.specs.declared.call.Call.TheVariants.{Start, Touch, Collect, Close}
 use Rattle.forms_model.specs.declared.verb.CallName.{CallName}
 use Rattle.forms_model.specs.declared.verb.CallName.TheVariants as name
-use Rattle.forms_model.specs.Reading.{Parsed, and_then, or_none, open_at, close_at, word_at, number_at, whole, form_of}
+use Rattle.forms_model.specs.Reading.{Parsed, and_then, or_none, open_at, close_at, word_at, number_at, whole_of, line_form}
 
 abbrev pub name_of : List ℕ → Option CallName
 name_of word =
@@ -32,8 +31,8 @@ module _ {Op : Type 0} (operation_at : List Lexeme → Parsed (Result Op Refusal
 
   -- the call that all tokens of a line are
   abbrev pub call_of : List Lexeme → Option (Call Op)
-  call_of xs = whole (call_at xs)
+  call_of = whole_of call_at
 
   -- the call in a line of that number, or the line's fault
   abbrev pub line_call : ℕ → List ℕ → Result (Call Op) Fault
-  line_call line bytes = form_of call_of line (tokens_of line bytes)
+  line_call = line_form call_at

@@ -1,7 +1,9 @@
 pub mod Calls
+pub mod Counted
 pub mod Cutting
 pub mod Openings
 pub mod Operations
 pub mod Pattern
 pub mod ReadBack
 pub mod Reading
+pub mod Rules

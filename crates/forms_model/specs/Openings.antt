@@ -2,12 +2,11 @@
 use Rattle.std.specs.Prelude.{ℕ, cond, List, Some, None, codes, Option, Result}
 use Rattle.std.specs.Str.{bytes_eq}
 use Rattle.lex.specs.Runs.{Lexeme}
-use Rattle.lex.specs.Tokens.{tokens_of}
 use Rattle.lex.specs.declared.fault.Fault.{Fault}
 use Rattle.forms_model.specs.declared.opening.Kind.{Kind}
 use Rattle.forms_model.specs.declared.opening.Kind.TheVariants.{Cutting, Pattern}
 use Rattle.forms_model.specs.declared.opening.Opening.{Opening}
-use Rattle.forms_model.specs.Reading.{Parsed, and_then, or_none, open_at, close_at, word_at, number_at, keyword_at, whole, form_of}
+use Rattle.forms_model.specs.Reading.{Parsed, and_then, or_none, open_at, close_at, word_at, number_at, keyword_at, whole_of, line_form}
 
 abbrev pub kind_of : List ℕ → Option Kind
 kind_of name = cond (bytes_eq name (codes "cutting")) (Some Cutting) (cond (bytes_eq name (codes "pattern")) (Some Pattern) None)
@@ -22,8 +21,8 @@ opening_at xs = and_then (open_at xs) (λ _ xs. and_then (keyword_at (codes "flo
 
 -- the opening that all tokens of a line are
 abbrev pub opening_of : List Lexeme → Option Opening
-opening_of xs = whole (opening_at xs)
+opening_of = whole_of opening_at
 
 -- the opening in a line of that number, or the line's fault
 abbrev pub line_opening : ℕ → List ℕ → Result Opening Fault
-line_opening line bytes = form_of opening_of line (tokens_of line bytes)
+line_opening = line_form opening_at

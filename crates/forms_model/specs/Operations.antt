@@ -1,4 +1,4 @@
--- How an operation is read, by how the keys and elements of a trade are.
+-- How an operation is read, by the rules of its trade.
 use Rattle.std.specs.Prelude.{ℕ, cond, List, Some, None, Ok, codes, Option, Result}
 use Rattle.std.specs.Str.{bytes_eq}
 use Rattle.lex.specs.Runs.{Lexeme}
@@ -14,6 +14,7 @@ use Rattle.forms_model.specs.declared.verb.NestVerb.TheVariants.{Add, Drop, Find
 use Rattle.forms_model.specs.declared.verb.Verb.{Verb}
 use Rattle.forms_model.specs.declared.verb.Verb.TheVariants.{Nest, Put, Take}
 use Rattle.forms_model.specs.Reading.{Parsed, and_then, or_none, open_at, close_at, word_at, if_made}
+use Rattle.forms_model.specs.Rules.{Rules}
 
 -- an operation of a floor: of its nest or of its line
 abbrev pub Operation : Type 0 → Type 0 → Type 0
@@ -32,11 +33,11 @@ asked Add key = nest.Add key
 asked Drop key = nest.Drop key
 asked Find key = nest.Find key
 
-module _ {K E : Type 0} (key_at : List Lexeme → Parsed (Result K Refusal)) (element_at : List Lexeme → Parsed (Result E Refusal)) where
+module _ {K E : Type 0} (rules : Rules K E) where
   -- what follows the verb
   abbrev pub operation_body : Verb → List Lexeme → Parsed (Result (Operation K E) Refusal)
-  operation_body (Nest verb) xs = and_then (key_at xs) (λ key xs. Some (if_made (λ k. Ok (First (asked verb k))) key, xs))
-  operation_body Put xs = and_then (element_at xs) (λ element xs. Some (if_made (λ e. Ok (Second (line.Put e))) element, xs))
+  operation_body (Nest verb) xs = and_then (rules.key_at xs) (λ key xs. Some (if_made (λ k. Ok (First (asked verb k))) key, xs))
+  operation_body Put xs = and_then (rules.element_at xs) (λ element xs. Some (if_made (λ e. Ok (Second (line.Put e))) element, xs))
   operation_body Take xs = Some (Ok (Second line.Take), xs)
 
   -- (add K), (drop K), (find K), (put E) or (take)

@@ -1,9 +1,9 @@
 -- What prints as a form reads back to the same value.
 use Rattle.std.specs.Prelude.{◌≡◌, ℕ, ◌+◌, List, ◌++◌, length, Some, Ok, Result}
 use Rattle.lex.specs.Runs.{Lexeme}
-use Rattle.lex.specs.Tokens.{lexed, before, tokens_of}
+use Rattle.lex.specs.Tokens.{lexed, before}
 use Rattle.keys.specs.declared.refusal.Refusal.{Refusal}
-use Rattle.forms_model.specs.Reading.{Parsed, whole, form_of}
+use Rattle.forms_model.specs.Reading.{Parsed, line_form}
 
 -- bytes that stand in a line from the given byte on are these tokens, whatever follows them
 abbrev pub Lexes : (line byte : ℕ) → List ℕ → List Lexeme → Type 0
@@ -15,4 +15,4 @@ ReadsBack {A} text at = (x : A) (line byte : ℕ) → (tokens : List Lexeme) × 
 
 -- a line of one value's text reads as that value
 abbrev pub ReadsBackAlone : {A : Type 0} → (A → List ℕ) → (List Lexeme → Parsed (Result A Refusal)) → Type 0
-ReadsBackAlone {A} text at = (x : A) (line : ℕ) → form_of (λ tokens. whole (at tokens)) line (tokens_of line (text x)) ≡ Ok (Ok x)
+ReadsBackAlone {A} text at = (x : A) (line : ℕ) → line_form at line (text x) ≡ Ok (Ok x)

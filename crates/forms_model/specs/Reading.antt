@@ -2,6 +2,7 @@
 use Rattle.std.specs.Prelude.{◌≡◌, ℕ, cond, List, [], ◌∷◌, Some, None, Ok, Err, Option, Result}
 use Rattle.std.specs.Str.{bytes_eq}
 use Rattle.lex.specs.Runs.{Lexeme, opening, closing, word, number}
+use Rattle.lex.specs.Tokens.{tokens_of}
 use Rattle.lex.specs.Faults.{no_form}
 use Rattle.lex.specs.declared.fault.Fault.{Fault}
 use Rattle.lex.specs.declared.fault.Stop.{Stop}
@@ -91,6 +92,14 @@ or_no_form line (Some x) = Ok x
 abbrev pub form_of : {A : Type 0} → (List Lexeme → Option A) → ℕ → Result (List Lexeme) Fault → Result A Fault
 form_of form line (Ok xs) = or_no_form line (form xs)
 form_of form line (Err fault) = Err fault
+
+-- the form that all tokens of a line are
+abbrev pub whole_of : {A : Type 0} → (List Lexeme → Parsed A) → List Lexeme → Option A
+whole_of at xs = whole (at xs)
+
+-- the form in a line of that number, or the line's fault
+abbrev pub line_form : {A : Type 0} → (List Lexeme → Parsed A) → ℕ → List ℕ → Result A Fault
+line_form at line bytes = form_of (whole_of at) line (tokens_of line bytes)
 
 -- what a reading tells is what the definition says, unless memory is lacking
 abbrev pub Tells : {A : Type 0} → Result A Stop → Result A Fault → Type 0

@@ -5,13 +5,21 @@ use forms_model::call::Call;
 use forms_model::opening::{Kind, Opening};
 use keys::refusal::Refusal;
 use lex::fault::{Fault, FaultKind, Stop};
+use lex::line::ScriptLine;
+use lex::token::Place;
 use std::alloc::Global;
 use std::test::Fail;
 use trades::trade::{Cutting, Pattern, Trade};
 
 // What is told of line 3 where it is read as a start: that it is one, its refusal, or its fault.
 fn start<T: Trade>(heap: Global, line: &[u8]) -> Result<Option<Refusal>, Stop> {
-    match line_call::<T>(heap, line, 3)? {
+    match line_call::<T>(
+        heap,
+        ScriptLine {
+            number: 3,
+            bytes: line,
+        },
+    )? {
         Call::Start(_, Err(refusal)) => Ok(Some(refusal)),
         _ => Ok(None),
     }
@@ -20,8 +28,7 @@ fn start<T: Trade>(heap: Global, line: &[u8]) -> Result<Option<Refusal>, Stop> {
 fn no_form() -> Result<Option<Refusal>, Stop> {
     Err(Stop::Faulty(Fault {
         kind: FaultKind::NoForm,
-        line: 3,
-        byte: 1,
+        place: Place { line: 3, byte: 1 },
     }))
 }
 
@@ -137,9 +144,14 @@ fn numbers_out_of_range_are_refused(rt: HostRuntime) {
     );
 }
 
+// The first line of a script.
+fn first(bytes: &[u8]) -> ScriptLine<'_> {
+    ScriptLine { number: 1, bytes }
+}
+
 #[test]
 fn an_opening_has_its_numbers_as_written(rt: HostRuntime) -> Result<(), Fail> {
-    let opening = line_opening(rt.alloc(), b"(floor pattern 2 4 99999 0)", 1)?;
+    let opening = line_opening(rt.alloc(), first(b"(floor pattern 2 4 99999 0)"))?;
     assert_eq!(rt;
         opening,
         Opening {
@@ -150,14 +162,13 @@ fn an_opening_has_its_numbers_as_written(rt: HostRuntime) -> Result<(), Fail> {
             line_nodes: 0,
         }
     );
-    match line_opening(rt.alloc(), b"(floor sewing 2 4 3 2)", 1) {
+    match line_opening(rt.alloc(), first(b"(floor sewing 2 4 3 2)")) {
         Err(Stop::Faulty(fault)) => {
             assert_eq!(rt;
                 fault,
                 Fault {
                     kind: FaultKind::NoForm,
-                    line: 1,
-                    byte: 1,
+                    place: Place { line: 1, byte: 1 },
                 }
             );
             Ok(())

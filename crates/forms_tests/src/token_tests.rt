@@ -1,20 +1,26 @@
 // The tokens of lines: each fault at its place.
 use lex::fault::{Fault, FaultKind, Stop};
-use lex::line::first_line;
+use lex::line::{Lines, ScriptLine, first_line};
+use lex::token::Place;
 use lex::tokens::tokens;
 use std::alloc::Global;
 
 // How many tokens a line has, or its fault.
 fn outcome(heap: Global, line: &[u8]) -> Result<usize, Stop> {
-    let tokens = tokens(heap, line, 7)?;
+    let tokens = tokens(
+        heap,
+        ScriptLine {
+            number: 7,
+            bytes: line,
+        },
+    )?;
     Ok(tokens.len())
 }
 
 fn at(kind: FaultKind, byte: usize) -> Result<usize, Stop> {
     Err(Stop::Faulty(Fault {
         kind,
-        line: 7,
-        byte,
+        place: Place { line: 7, byte },
     }))
 }
 
@@ -72,4 +78,15 @@ fn lines_are_cut_at_newlines(rt: HostRuntime) {
     assert!(rt; rest.is_empty());
     let (_, rest) = first_line(b"a\n");
     assert!(rt; rest.is_empty());
+}
+
+#[test]
+fn lines_are_numbered(rt: HostRuntime) {
+    let mut lines = Lines::new(b"a\n\nb");
+    for (number, length) in [(1, 1), (2, 0), (3, 1)] {
+        let read = lines.next();
+        assert!(rt; read.is_some_and(|line| line.number == number && line.bytes.len() == length));
+    }
+    assert!(rt; lines.next().is_none());
+    assert!(rt; Lines::new(b"").next().is_none());
 }

@@ -27,6 +27,8 @@ impl<'t, 's> Reader<'t, 's> {
         Some(*first)
     }
 
+    // Callers write `open()?` and `close()?` round a form: a method that takes a closure in their place would save one
+    // line of each form, and each closure would need a contract of its own.
     pub fn open(&mut self) -> Option<()>
         ensures { Took (λ x. x) result (open_at (left self.old)) (left self.new) }
     {
@@ -69,21 +71,14 @@ impl<'t, 's> Reader<'t, 's> {
     pub fn keyword(&mut self, name: &[u8]) -> Option<()>
         ensures { Took (λ x. x) result (keyword_at name.now (left self.old)) (left self.new) }
     {
-        if spells(self.word()?, name) {
-            Some(())
-        } else {
-            None
-        }
+        spells(self.word()?, name).then_some(())
     }
 
     // What was read, where no token is left.
-    pub fn finish<A: Copy>(&mut self, read: A) -> Option<A>
-        ensures { result ≡ alone read (left self.old) }
+    pub fn finish<A: Copy>(&self, read: A) -> Option<A>
+        ensures { result ≡ alone read (left self.now) }
     {
-        match self.token() {
-            None => Some(read),
-            Some(_) => None,
-        }
+        self.rest.is_empty().then_some(read)
     }
 }
 

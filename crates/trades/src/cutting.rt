@@ -4,29 +4,24 @@ ghost use Rattle.forms_model.specs.Reading.{Took};
 ghost use Rattle.forms_model.specs.Cutting.{letter_of, letter_at, waist_at, size_body, size_at, ticket_at};
 ghost use Rattle.reader.specs.Reader.{left};
 
+use crate::counted::{KeyForm, counted};
 use keys::cut_ticket::CutTicket;
 use keys::refusal::Refusal;
 use keys::size_label::{LetterSize, SizeLabel, WaistSize};
 use reader::{Reader, spells};
 
-// The size that a word names.
+// The size that a word names. It is no `TryFrom`: the error would carry nothing, and each caller would drop it.
 fn letter_size(name: &[u8]) -> Option<LetterSize>
     ensures { result ≡ letter_of name.now }
 {
-    if spells(name, b"xs") {
-        Some(LetterSize::Xs)
-    } else if spells(name, b"s") {
-        Some(LetterSize::S)
-    } else if spells(name, b"m") {
-        Some(LetterSize::M)
-    } else if spells(name, b"l") {
-        Some(LetterSize::L)
-    } else if spells(name, b"xl") {
-        Some(LetterSize::Xl)
-    } else if spells(name, b"xxl") {
-        Some(LetterSize::Xxl)
-    } else {
-        None
+    match name {
+        b"xs" => Some(LetterSize::Xs),
+        b"s" => Some(LetterSize::S),
+        b"m" => Some(LetterSize::M),
+        b"l" => Some(LetterSize::L),
+        b"xl" => Some(LetterSize::Xl),
+        b"xxl" => Some(LetterSize::Xxl),
+        _ => None,
     }
 }
 
@@ -44,21 +39,16 @@ fn waist_label(reader: &mut Reader<'_, '_>) -> Option<Result<SizeLabel, Refusal>
 {
     let waist = reader.number()?;
     let leg = reader.number()?;
-    Some(match WaistSize::new(waist, leg) {
-        Ok(size) => Ok(SizeLabel::Waist(size)),
-        Err(refusal) => Err(refusal),
-    })
+    Some(WaistSize::new(waist, leg).map(SizeLabel::Waist))
 }
 
 fn size_body(name: &[u8], reader: &mut Reader<'_, '_>) -> Option<Result<SizeLabel, Refusal>>
     ensures { Took (λ x. x) result (size_body name.now (left reader.old)) (left reader.new) }
 {
-    if spells(name, b"letter") {
-        letter_label(reader)
-    } else if spells(name, b"w") {
-        waist_label(reader)
-    } else {
-        None
+    match name {
+        b"letter" => letter_label(reader),
+        b"w" => waist_label(reader),
+        _ => None,
     }
 }
 
@@ -73,17 +63,18 @@ pub fn size_label(reader: &mut Reader<'_, '_>) -> Option<Result<SizeLabel, Refus
     Some(size)
 }
 
+impl KeyForm for SizeLabel {
+    ghost at = { size_at };
+
+    fn read(reader: &mut Reader<'_, '_>) -> Option<Result<SizeLabel, Refusal>> {
+        size_label(reader)
+    }
+}
+
 // Reads `(ticket K PLIES)`.
 pub fn cut_ticket(reader: &mut Reader<'_, '_>) -> Option<Result<CutTicket, Refusal>>
     ensures { Took (λ x. x) result (ticket_at (left reader.old)) (left reader.new) }
 {
-    reader.open()?;
-    reader.keyword(b"ticket")?;
-    let size = size_label(reader)?;
-    let plies = reader.number()?;
-    reader.close()?;
-    Some(match size {
-        Ok(size) => CutTicket::new(size, plies),
-        Err(refusal) => Err(refusal),
-    })
+    let (size, plies) = counted::<SizeLabel>(reader, b"ticket")?;
+    Some(size.and_then(|size| CutTicket::new(size, plies)))
 }

@@ -4,12 +4,13 @@ ghost use Rattle.forms_model.specs.Reading.{Took};
 ghost use Rattle.forms_model.specs.Pattern.{capital_of, piece_at, order_at};
 ghost use Rattle.reader.specs.Reader.{left};
 
+use crate::counted::{KeyForm, counted};
 use keys::piece_code::PieceCode;
 use keys::plot_order::PlotOrder;
 use keys::refusal::Refusal;
 use reader::Reader;
 
-// The letter that a word of one capital letter is.
+// The letter that a word of one capital letter is. It is no `TryFrom`: the error would carry nothing.
 fn capital(name: &[u8]) -> Option<char>
     ensures { result ≡ capital_of name.now }
 {
@@ -31,17 +32,18 @@ pub fn piece_code(reader: &mut Reader<'_, '_>) -> Option<Result<PieceCode, Refus
     Some(PieceCode::new(letter, number))
 }
 
+impl KeyForm for PieceCode {
+    ghost at = { piece_at };
+
+    fn read(reader: &mut Reader<'_, '_>) -> Option<Result<PieceCode, Refusal>> {
+        piece_code(reader)
+    }
+}
+
 // Reads `(order K COPIES)`.
 pub fn plot_order(reader: &mut Reader<'_, '_>) -> Option<Result<PlotOrder, Refusal>>
     ensures { Took (λ x. x) result (order_at (left reader.old)) (left reader.new) }
 {
-    reader.open()?;
-    reader.keyword(b"order")?;
-    let piece = piece_code(reader)?;
-    let copies = reader.number()?;
-    reader.close()?;
-    Some(match piece {
-        Ok(piece) => PlotOrder::new(piece, copies),
-        Err(refusal) => Err(refusal),
-    })
+    let (piece, copies) = counted::<PieceCode>(reader, b"order")?;
+    Some(piece.and_then(|piece| PlotOrder::new(piece, copies)))
 }

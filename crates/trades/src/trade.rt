@@ -1,10 +1,9 @@
 // What the floors of the two trades differ in: their keys and elements, and how these are read.
-ghost use Rattle.std.specs.Prelude.{◌≡◌, List, Result};
-ghost use Rattle.keys.specs.declared.refusal.Refusal.{Refusal};
-ghost use Rattle.lex.specs.Runs.{Lexeme};
-ghost use Rattle.forms_model.specs.Reading.{Parsed, Took};
-ghost use Rattle.forms_model.specs.Cutting.{size_at, ticket_at, blank_size, blank_ticket};
-ghost use Rattle.forms_model.specs.Pattern.{piece_at, order_at, blank_piece, blank_order};
+ghost use Rattle.std.specs.Prelude.{◌≡◌, refl};
+ghost use Rattle.forms_model.specs.Reading.{Took};
+ghost use Rattle.forms_model.specs.Rules.{Rules, rules_with};
+ghost use Rattle.forms_model.specs.Cutting.{cutting_rules};
+ghost use Rattle.forms_model.specs.Pattern.{pattern_rules};
 ghost use Rattle.forms_model.specs.ReadBack.{ReadsBack};
 ghost use Rattle.reader.specs.Reader.{left};
 ghost use Rattle.forms_model.proofs.ReadBack.{size_reads_back, ticket_reads_back, piece_reads_back, order_reads_back};
@@ -27,31 +26,28 @@ pub trait Trade {
 
     type Element: Copy + Text;
 
-    ghost key_at: { List Lexeme → Parsed (Result Self.Key Refusal) };
-
-    ghost element_at: { List Lexeme → Parsed (Result Self.Element Refusal) };
+    ghost rules: { Rules Self.Key Self.Element };
 
     // a key and an element that fill the unused nodes of a floor; nothing shows them
-    ghost blank_key: { Self.Key };
-
-    ghost blank_element: { Self.Element };
-
     fn blank_key() -> Self::Key
-        ensures { result ≡ blank_key };
+        ensures { result ≡ rules.blank_key };
 
     fn blank_element() -> Self::Element
-        ensures { result ≡ blank_element };
+        ensures { result ≡ rules.blank_element };
 
     fn key(reader: &mut Reader<'_, '_>) -> Option<Result<Self::Key, Refusal>>
-        ensures { Took (λ x. x) result (key_at (left reader.old)) (left reader.new) };
+        ensures { Took (λ x. x) result (rules.key_at (left reader.old)) (left reader.new) };
 
     fn element(reader: &mut Reader<'_, '_>) -> Option<Result<Self::Element, Refusal>>
-        ensures { Took (λ x. x) result (element_at (left reader.old)) (left reader.new) };
+        ensures { Took (λ x. x) result (rules.element_at (left reader.old)) (left reader.new) };
+
+    // the order and the texts are those of the key and the element
+    ghost rules_are: { rules ≡ rules_with Self.Key.before Self.Key.Text.bytes Self.Element.Text.bytes rules };
 
     // what prints of a key reads back to that key, and of an element to that element
-    ghost keys_back: { ReadsBack Self.Key.Text.bytes key_at };
+    ghost keys_back: { ReadsBack Self.Key.Text.bytes rules.key_at };
 
-    ghost elements_back: { ReadsBack Self.Element.Text.bytes element_at };
+    ghost elements_back: { ReadsBack Self.Element.Text.bytes rules.element_at };
 }
 
 // Cutting floors hang size labels and queue cut tickets.
@@ -65,13 +61,9 @@ impl Trade for Cutting {
 
     type Element = CutTicket;
 
-    ghost key_at = { size_at };
+    ghost rules = { cutting_rules };
 
-    ghost element_at = { ticket_at };
-
-    ghost blank_key = { blank_size };
-
-    ghost blank_element = { blank_ticket };
+    ghost rules_are = { refl };
 
     ghost keys_back = { size_reads_back };
 
@@ -102,13 +94,9 @@ impl Trade for Pattern {
 
     type Element = PlotOrder;
 
-    ghost key_at = { piece_at };
+    ghost rules = { pattern_rules };
 
-    ghost element_at = { order_at };
-
-    ghost blank_key = { blank_piece };
-
-    ghost blank_element = { blank_order };
+    ghost rules_are = { refl };
 
     ghost keys_back = { piece_reads_back };
 

@@ -3,15 +3,15 @@ ghost use Rattle.std.specs.Prelude.{◌≡◌};
 ghost use Rattle.forms_model.specs.Reading.{Took, Tells};
 ghost use Rattle.forms_model.specs.Operations.{operation_at};
 ghost use Rattle.forms_model.specs.Calls.{name_of, call_body, call_at, line_call};
-ghost use Rattle.reader.specs.Reader.{left};
 
-use crate::form::{Form, line_form};
+use crate::form::line_form;
 use crate::operation::{Operation, operation};
 use forms_model::call::Call;
 use forms_model::verb::CallName;
 use lex::fault::Stop;
 use lex::line::ScriptLine;
 use reader::Reader;
+use reader::form::Form;
 use std::alloc::Global;
 use std::marker::PhantomData;
 use trades::trade::Trade;
@@ -34,7 +34,7 @@ fn call_body<T: Trade>(
     name: CallName,
     reader: &mut Reader<'_, '_>,
 ) -> Option<Call<Operation<T::Key, T::Element>>>
-    ensures { Took (λ x. x) result (call_body (operation_at T.rules) name (left reader.old)) (left reader.new) }
+    ensures { Took result (call_body (operation_at T.rules) name reader.old) reader.new }
 {
     Some(match name {
         CallName::Start => {
@@ -49,7 +49,7 @@ fn call_body<T: Trade>(
 
 // Reads `(start P OP)`, `(touch P)`, `(collect P)` or `(close)`.
 fn call<T: Trade>(reader: &mut Reader<'_, '_>) -> Option<Call<Operation<T::Key, T::Element>>>
-    ensures { Took (λ x. x) result (call_at (operation_at T.rules) (left reader.old)) (left reader.new) }
+    ensures { Took result (call_at (operation_at T.rules) reader.old) reader.new }
 {
     reader.open()?;
     let name = call_name(reader.word()?)?;

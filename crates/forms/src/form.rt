@@ -1,31 +1,21 @@
 // Reading a line of a script as one form.
-ghost use Rattle.std.specs.Prelude.{◌≡◌, List, map};
-ghost use Rattle.lex.specs.Runs.{Lexeme, lexeme};
-ghost use Rattle.forms_model.specs.Reading.{Parsed, Took, Tells, whole_of, line_form};
-ghost use Rattle.reader.specs.Reader.{left};
+ghost use Rattle.std.specs.Prelude.{◌≡◌, map};
+ghost use Rattle.lex.specs.Runs.{lexeme};
+ghost use Rattle.forms_model.specs.Reading.{Tells, whole_of, line_form};
 
 use lex::fault::{Fault, Stop};
 use lex::line::ScriptLine;
 use lex::token::Token;
 use lex::tokens::tokens;
 use reader::Reader;
+use reader::form::Form;
 use std::alloc::Global;
-
-// A form that a line of a script can be.
-pub(crate) trait Form {
-    type Value: Copy;
-
-    ghost at: { List Lexeme → Parsed Self.Value };
-
-    fn read(reader: &mut Reader<'_, '_>) -> Option<Self::Value>
-        ensures { Took (λ x. x) result (at (left reader.old)) (left reader.new) };
-}
 
 // The form that all tokens of a line are.
 fn whole_form<F: Form>(tokens: &[Token<'_>]) -> Option<F::Value>
     ensures { result ≡ whole_of F.at (map lexeme tokens.now) }
 {
-    let mut reader = Reader { rest: tokens };
+    let mut reader = Reader::new(tokens);
     let value = F::read(&mut reader)?;
     reader.finish(value)
 }

@@ -2,13 +2,13 @@
 ghost use Rattle.std.specs.Prelude.{◌≡◌};
 ghost use Rattle.forms_model.specs.Reading.{Took, Tells};
 ghost use Rattle.forms_model.specs.Openings.{kind_of, opening_body, opening_at, line_opening};
-ghost use Rattle.reader.specs.Reader.{left};
 
-use crate::form::{Form, line_form};
+use crate::form::line_form;
 use forms_model::opening::{Kind, Opening};
 use lex::fault::Stop;
 use lex::line::ScriptLine;
 use reader::Reader;
+use reader::form::Form;
 use std::alloc::Global;
 
 // The kind that a word names. It is no `TryFrom`: the error would carry nothing, and the caller would drop it.
@@ -24,7 +24,7 @@ fn kind(name: &[u8]) -> Option<Kind>
 
 // Reads what follows the kind.
 fn opening_body(kind: Kind, reader: &mut Reader<'_, '_>) -> Option<Opening>
-    ensures { Took (λ x. x) result (opening_body kind (left reader.old)) (left reader.new) }
+    ensures { Took result (opening_body kind reader.old) reader.new }
 {
     let stations = reader.number()? as usize;
     let limit = reader.number()? as usize;
@@ -42,7 +42,7 @@ fn opening_body(kind: Kind, reader: &mut Reader<'_, '_>) -> Option<Opening>
 
 // Reads `(floor KIND S L N M)`.
 fn opening(reader: &mut Reader<'_, '_>) -> Option<Opening>
-    ensures { Took (λ x. x) result (opening_at (left reader.old)) (left reader.new) }
+    ensures { Took result (opening_at reader.old) reader.new }
 {
     reader.open()?;
     reader.keyword(b"floor")?;
@@ -50,7 +50,10 @@ fn opening(reader: &mut Reader<'_, '_>) -> Option<Opening>
     opening_body(kind, reader)
 }
 
-impl Form for Opening {
+// The opening of a floor, as the form that a line can be.
+struct OpeningForm;
+
+impl Form for OpeningForm {
     type Value = Opening;
 
     ghost at = { opening_at };
@@ -64,5 +67,5 @@ impl Form for Opening {
 pub fn line_opening(heap: Global, line: ScriptLine<'_>) -> Result<Opening, Stop>
     ensures { Tells result (line_opening line.entry.number line.entry.bytes.now) }
 {
-    line_form::<Opening>(heap, line)
+    line_form::<OpeningForm>(heap, line)
 }

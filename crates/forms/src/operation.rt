@@ -2,7 +2,6 @@
 ghost use Rattle.std.specs.Prelude.{◌≡◌};
 ghost use Rattle.forms_model.specs.Reading.{Took};
 ghost use Rattle.forms_model.specs.Operations.{verb_of, asked, operation_body, operation_at};
-ghost use Rattle.reader.specs.Reader.{left};
 
 use forms_model::verb::{NestVerb, Verb};
 use keys::refusal::Refusal;
@@ -44,7 +43,7 @@ fn operation_body<T: Trade>(
     verb: Verb,
     reader: &mut Reader<'_, '_>,
 ) -> Option<Result<Operation<T::Key, T::Element>, Refusal>>
-    ensures { Took (λ x. x) result (operation_body T.rules verb (left reader.old)) (left reader.new) }
+    ensures { Took result (operation_body T.rules verb reader.old) reader.new }
 {
     Some(match verb {
         Verb::Nest(verb) => T::key(reader)?.map(|key| Side::First(asked(verb, key))),
@@ -57,7 +56,7 @@ fn operation_body<T: Trade>(
 pub fn operation<T: Trade>(
     reader: &mut Reader<'_, '_>,
 ) -> Option<Result<Operation<T::Key, T::Element>, Refusal>>
-    ensures { Took (λ x. x) result (operation_at T.rules (left reader.old)) (left reader.new) }
+    ensures { Took result (operation_at T.rules reader.old) reader.new }
 {
     reader.open()?;
     let verb = verb(reader.word()?)?;

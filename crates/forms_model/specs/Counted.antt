@@ -5,7 +5,7 @@ use Rattle.keys.specs.declared.refusal.Refusal.{Refusal}
 use Rattle.forms_model.specs.Reading.{Parsed, and_then, open_at, close_at, number_at, keyword_at, if_made}
 
 -- (NAME K COUNT), as the key and the count
-abbrev pub counted_at : {K : Type 0} → List ℕ → (List Lexeme → Parsed (Result K Refusal)) → List Lexeme → Parsed (Result K Refusal × ℕ)
+abbrev pub counted_at : {A : Type 0} → List ℕ → (List Lexeme → Parsed A) → List Lexeme → Parsed (A × ℕ)
 counted_at name key_at xs = and_then (open_at xs) (λ _ xs. and_then (keyword_at name xs) (λ _ xs. and_then (key_at xs) (λ key xs. and_then (number_at xs) (λ count xs. and_then (close_at xs) (λ _ xs. Some ((key, count), xs))))))
 
 -- what is made of a key and a count

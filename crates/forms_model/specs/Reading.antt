@@ -67,9 +67,13 @@ abbrev pub keyword_at : List ℕ → List Lexeme → Parsed (Unit {0})
 keyword_at name xs = and_then (word_at xs) (λ bytes ys. cond (bytes_eq bytes name) (Some (tt, ys)) None)
 
 -- A reader answered what the definition says, seen through f, and left the tokens after it.
-abbrev pub Took : {A B : Type 0} → (A → B) → Option A → Parsed B → List Lexeme → Type 0
-Took f None said after = said ≡ None
-Took f (Some x) said after = said ≡ Some (f x, after)
+abbrev pub TookBy : {A B : Type 0} → (A → B) → Option A → Parsed B → List Lexeme → Type 0
+TookBy f None said after = said ≡ None
+TookBy f (Some x) said after = said ≡ Some (f x, after)
+
+-- the same, where nothing has to be seen through
+abbrev pub Took : {A : Type 0} → Option A → Parsed A → List Lexeme → Type 0
+Took = TookBy (λ x. x)
 
 abbrev pub if_none : {A B : Type 0} → A → Option B → Option A
 if_none x None = Some x

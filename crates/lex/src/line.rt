@@ -77,7 +77,8 @@ impl<'s> Iterator for Lines<'s> {
 
 // How many bytes stand before the first newline.
 fn line_length(bytes: &[u8]) -> usize
-    ensures { result ≡ prefix_len in_line bytes.now }
+    ensures within { result ≤ length bytes.now }
+    ensures length { result ≡ prefix_len in_line bytes.now }
 {
     bytes.iter().take_while(|byte| **byte != b'\n').count()
 }

@@ -1,24 +1,43 @@
 // Tokens, read one after another.
 #![tactic(auto)]
 
-ghost use Rattle.std.specs.Prelude.{◌≡◌};
+ghost use Rattle.std.specs.Prelude.{◌≡◌, map};
 ghost use Rattle.std.specs.Str.{bytes_eq};
 ghost use Rattle.lex.specs.Runs.{lexeme};
-ghost use Rattle.forms_model.specs.Reading.{Took, token_at, open_at, close_at, word_at, number_at, keyword_at, alone};
-ghost use Rattle.reader.specs.Reader.{left};
+ghost use Rattle.forms_model.specs.Reading.{Took, TookBy, token_at, open_at, close_at, word_at, number_at, keyword_at, alone};
+
+pub mod form;
 
 use lex::token::Token;
+use std::marker::Model;
 
 // The tokens that are still to be read. Each reading takes a form from their front, or answers `None` where they are
 // no such form; what is then left does not matter, since the line is at fault.
 #[derive(Drop)]
 pub struct Reader<'t, 's> {
-    pub rest: &'t [Token<'s>],
+    rest: &'t [Token<'s>],
+}
+
+// A contract sees the tokens as values.
+impl<'t, 's> Model for Reader<'t, 's> {
+    ghost use Rattle.std.specs.Prelude.{List, map};
+    ghost use Rattle.lex.specs.Runs.{Lexeme, lexeme};
+
+    ghost Value = { List Lexeme };
+
+    ghost view = { λ reader. map lexeme reader.rest.now };
 }
 
 impl<'t, 's> Reader<'t, 's> {
+    // All tokens of a line.
+    pub fn new(tokens: &'t [Token<'s>]) -> Self
+        ensures { result ≡ map lexeme tokens.now }
+    {
+        Reader { rest: tokens }
+    }
+
     fn token(&mut self) -> Option<Token<'s>>
-        ensures { Took lexeme result (token_at (left self.old)) (left self.new) }
+        ensures { TookBy lexeme result (token_at self.old) self.new }
     {
         let [first, rest @ ..] = self.rest else {
             return None;
@@ -30,7 +49,7 @@ impl<'t, 's> Reader<'t, 's> {
     // Callers write `open()?` and `close()?` round a form: a method that takes a closure in their place would save one
     // line of each form, and each closure would need a contract of its own.
     pub fn open(&mut self) -> Option<()>
-        ensures { Took (λ x. x) result (open_at (left self.old)) (left self.new) }
+        ensures { Took result (open_at self.old) self.new }
     {
         match self.token()? {
             Token::Open(_) => Some(()),
@@ -39,7 +58,7 @@ impl<'t, 's> Reader<'t, 's> {
     }
 
     pub fn close(&mut self) -> Option<()>
-        ensures { Took (λ x. x) result (close_at (left self.old)) (left self.new) }
+        ensures { Took result (close_at self.old) self.new }
     {
         match self.token()? {
             Token::Close(_) => Some(()),
@@ -49,7 +68,7 @@ impl<'t, 's> Reader<'t, 's> {
 
     // Reads a word and answers its bytes.
     pub fn word(&mut self) -> Option<&'s [u8]>
-        ensures { Took (λ x. x.now) result (word_at (left self.old)) (left self.new) }
+        ensures { TookBy (λ x. x.now) result (word_at self.old) self.new }
     {
         match self.token()? {
             Token::Word(bytes, _) => Some(bytes),
@@ -59,7 +78,7 @@ impl<'t, 's> Reader<'t, 's> {
 
     // Reads a number and answers its value.
     pub fn number(&mut self) -> Option<u32>
-        ensures { Took (λ x. x) result (number_at (left self.old)) (left self.new) }
+        ensures { Took result (number_at self.old) self.new }
     {
         match self.token()? {
             Token::Number(_, value, _) => Some(value),
@@ -69,14 +88,14 @@ impl<'t, 's> Reader<'t, 's> {
 
     // Reads a word that has to be `name`.
     pub fn keyword(&mut self, name: &[u8]) -> Option<()>
-        ensures { Took (λ x. x) result (keyword_at name.now (left self.old)) (left self.new) }
+        ensures { Took result (keyword_at name.now self.old) self.new }
     {
         spells(self.word()?, name).then_some(())
     }
 
     // What was read, where no token is left.
     pub fn finish<A: Copy>(&self, read: A) -> Option<A>
-        ensures { result ≡ alone read (left self.now) }
+        ensures { result ≡ alone read self.now }
     {
         self.rest.is_empty().then_some(read)
     }

@@ -2,13 +2,13 @@
 ghost use Rattle.std.specs.Prelude.{◌≡◌};
 ghost use Rattle.forms_model.specs.Reading.{Took};
 ghost use Rattle.forms_model.specs.Cutting.{letter_of, letter_at, waist_at, size_body, size_at, ticket_at};
-ghost use Rattle.reader.specs.Reader.{left};
 
-use crate::counted::{KeyForm, counted};
+use crate::counted::counted;
 use keys::cut_ticket::CutTicket;
 use keys::refusal::Refusal;
 use keys::size_label::{LetterSize, SizeLabel, WaistSize};
-use reader::{Reader, spells};
+use reader::Reader;
+use reader::form::Form;
 
 // The size that a word names. It is no `TryFrom`: the error would carry nothing, and each caller would drop it.
 fn letter_size(name: &[u8]) -> Option<LetterSize>
@@ -27,7 +27,7 @@ fn letter_size(name: &[u8]) -> Option<LetterSize>
 
 // Reads what follows `letter`.
 fn letter_label(reader: &mut Reader<'_, '_>) -> Option<Result<SizeLabel, Refusal>>
-    ensures { Took (λ x. x) result (letter_at (left reader.old)) (left reader.new) }
+    ensures { Took result (letter_at reader.old) reader.new }
 {
     let letter = letter_size(reader.word()?)?;
     Some(Ok(SizeLabel::Letter(letter)))
@@ -35,7 +35,7 @@ fn letter_label(reader: &mut Reader<'_, '_>) -> Option<Result<SizeLabel, Refusal
 
 // Reads what follows `w`.
 fn waist_label(reader: &mut Reader<'_, '_>) -> Option<Result<SizeLabel, Refusal>>
-    ensures { Took (λ x. x) result (waist_at (left reader.old)) (left reader.new) }
+    ensures { Took result (waist_at reader.old) reader.new }
 {
     let waist = reader.number()?;
     let leg = reader.number()?;
@@ -43,7 +43,7 @@ fn waist_label(reader: &mut Reader<'_, '_>) -> Option<Result<SizeLabel, Refusal>
 }
 
 fn size_body(name: &[u8], reader: &mut Reader<'_, '_>) -> Option<Result<SizeLabel, Refusal>>
-    ensures { Took (λ x. x) result (size_body name.now (left reader.old)) (left reader.new) }
+    ensures { Took result (size_body name.now reader.old) reader.new }
 {
     match name {
         b"letter" => letter_label(reader),
@@ -54,7 +54,7 @@ fn size_body(name: &[u8], reader: &mut Reader<'_, '_>) -> Option<Result<SizeLabe
 
 // Reads `(letter SIZE)` or `(w WAIST LEG)`.
 pub fn size_label(reader: &mut Reader<'_, '_>) -> Option<Result<SizeLabel, Refusal>>
-    ensures { Took (λ x. x) result (size_at (left reader.old)) (left reader.new) }
+    ensures { Took result (size_at reader.old) reader.new }
 {
     reader.open()?;
     let name = reader.word()?;
@@ -63,7 +63,12 @@ pub fn size_label(reader: &mut Reader<'_, '_>) -> Option<Result<SizeLabel, Refus
     Some(size)
 }
 
-impl KeyForm for SizeLabel {
+// Size labels, as what a ticket is written with.
+struct SizeForm;
+
+impl Form for SizeForm {
+    type Value = Result<SizeLabel, Refusal>;
+
     ghost at = { size_at };
 
     fn read(reader: &mut Reader<'_, '_>) -> Option<Result<SizeLabel, Refusal>> {
@@ -73,8 +78,8 @@ impl KeyForm for SizeLabel {
 
 // Reads `(ticket K PLIES)`.
 pub fn cut_ticket(reader: &mut Reader<'_, '_>) -> Option<Result<CutTicket, Refusal>>
-    ensures { Took (λ x. x) result (ticket_at (left reader.old)) (left reader.new) }
+    ensures { Took result (ticket_at reader.old) reader.new }
 {
-    let (size, plies) = counted::<SizeLabel>(reader, b"ticket")?;
+    let (size, plies) = counted::<SizeForm>(reader, b"ticket")?;
     Some(size.and_then(|size| CutTicket::new(size, plies)))
 }

@@ -2,13 +2,13 @@
 ghost use Rattle.std.specs.Prelude.{◌≡◌};
 ghost use Rattle.forms_model.specs.Reading.{Took};
 ghost use Rattle.forms_model.specs.Pattern.{capital_of, piece_at, order_at};
-ghost use Rattle.reader.specs.Reader.{left};
 
-use crate::counted::{KeyForm, counted};
+use crate::counted::counted;
 use keys::piece_code::PieceCode;
 use keys::plot_order::PlotOrder;
 use keys::refusal::Refusal;
 use reader::Reader;
+use reader::form::Form;
 
 // The letter that a word of one capital letter is. It is no `TryFrom`: the error would carry nothing.
 fn capital(name: &[u8]) -> Option<char>
@@ -22,7 +22,7 @@ fn capital(name: &[u8]) -> Option<char>
 
 // Reads `(piece LETTER NUMBER)`.
 pub fn piece_code(reader: &mut Reader<'_, '_>) -> Option<Result<PieceCode, Refusal>>
-    ensures { Took (λ x. x) result (piece_at (left reader.old)) (left reader.new) }
+    ensures { Took result (piece_at reader.old) reader.new }
 {
     reader.open()?;
     reader.keyword(b"piece")?;
@@ -32,7 +32,12 @@ pub fn piece_code(reader: &mut Reader<'_, '_>) -> Option<Result<PieceCode, Refus
     Some(PieceCode::new(letter, number))
 }
 
-impl KeyForm for PieceCode {
+// Piece codes, as what an order is written with.
+struct PieceForm;
+
+impl Form for PieceForm {
+    type Value = Result<PieceCode, Refusal>;
+
     ghost at = { piece_at };
 
     fn read(reader: &mut Reader<'_, '_>) -> Option<Result<PieceCode, Refusal>> {
@@ -42,8 +47,8 @@ impl KeyForm for PieceCode {
 
 // Reads `(order K COPIES)`.
 pub fn plot_order(reader: &mut Reader<'_, '_>) -> Option<Result<PlotOrder, Refusal>>
-    ensures { Took (λ x. x) result (order_at (left reader.old)) (left reader.new) }
+    ensures { Took result (order_at reader.old) reader.new }
 {
-    let (piece, copies) = counted::<PieceCode>(reader, b"order")?;
+    let (piece, copies) = counted::<PieceForm>(reader, b"order")?;
     Some(piece.and_then(|piece| PlotOrder::new(piece, copies)))
 }

@@ -5,7 +5,6 @@ ghost use Rattle.forms_model.specs.Rules.{Rules, rules_with};
 ghost use Rattle.forms_model.specs.Cutting.{cutting_rules};
 ghost use Rattle.forms_model.specs.Pattern.{pattern_rules};
 ghost use Rattle.forms_model.specs.ReadBack.{ReadsBack};
-ghost use Rattle.reader.specs.Reader.{left};
 ghost use Rattle.forms_model.proofs.ReadBack.{size_reads_back, ticket_reads_back, piece_reads_back, order_reads_back};
 
 use crate::cutting::{cut_ticket, size_label};
@@ -36,10 +35,10 @@ pub trait Trade {
         ensures { result ≡ rules.blank_element };
 
     fn key(reader: &mut Reader<'_, '_>) -> Option<Result<Self::Key, Refusal>>
-        ensures { Took (λ x. x) result (rules.key_at (left reader.old)) (left reader.new) };
+        ensures { Took result (rules.key_at reader.old) reader.new };
 
     fn element(reader: &mut Reader<'_, '_>) -> Option<Result<Self::Element, Refusal>>
-        ensures { Took (λ x. x) result (rules.element_at (left reader.old)) (left reader.new) };
+        ensures { Took result (rules.element_at reader.old) reader.new };
 
     // the order and the texts are those of the key and the element
     ghost rules_are: { rules ≡ rules_with Self.Key.before Self.Key.Text.bytes Self.Element.Text.bytes rules };

@@ -1,7 +1,16 @@
-use Rattle.std.proofs.Common.{◌≡◌, codes, rules, refl}
-use Rattle.std.proofs.lemmas.Slice.Eq.{text_from_reads}
+use Rattle.std.proofs.Common.{codes, rules}
+use Rattle.forms_model.specs.Calls.{name_of}
+use Rattle.forms.proofs.Named.{named}
 use Rattle.forms.proofs.call.call_name.Goals as goal
 
+pub returns-in-start : goal.returns-in-start
+returns-in-start c = named name_of c.args.word.now (codes "start") (search rules) (search rules)
+
+pub returns-in-touch : goal.returns-in-touch
+returns-in-touch c = named name_of c.args.word.now (codes "touch") (search rules) (search rules)
+
 pub returns-in-collect : goal.returns-in-collect
-returns-in-collect c =
-    let is : c.args.word.now ≡ codes "collect" = text_from_reads _ _ (search rules) (search rules) in rw is refl
+returns-in-collect c = named name_of c.args.word.now (codes "collect") (search rules) (search rules)
+
+pub returns-in-close : goal.returns-in-close
+returns-in-close c = named name_of c.args.word.now (codes "close") (search rules) (search rules)

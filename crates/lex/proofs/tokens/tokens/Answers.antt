@@ -3,19 +3,8 @@ use Rattle.std.proofs.ResultArms.{chosen}
 use Rattle.std.proofs.lemmas.Result.{err_from_is_err_and}
 use Rattle.lex.specs.Runs.{lexeme}
 use Rattle.lex.specs.Tokens.{before, lexed, tokens_of, read_part}
-use Rattle.lex.proofs.Parts.{extent_below, lexed_end, part_token, part_fault}
+use Rattle.lex.proofs.Parts.{part_token, part_fault}
 use Rattle.lex.proofs.tokens.tokens.Goals as goal
-
-pub split_at-requires : goal.split_at-requires
-split_at-requires c =
-    let some : 0 < length c.loop-rest.rest.now = search rules in
-    extent_below _ _ some c.extent.ensures
-
-pub overflow_add-extent : goal.overflow_add-extent
-overflow_add-extent c =
-    let some : 0 < length c.loop-rest.rest.now = search rules in
-    let h = extent_below c.loop-rest.rest.now c.extent.result some c.extent.ensures in
-    search rules
 
 pub returns-in_err-token : goal.returns-in_err-token
 returns-in_err-token c =
@@ -39,8 +28,3 @@ loop-rest-preserved-in_ok-push c =
       subst P here (part_token c.args.line.number (length c.args.line.bytes.now - length c.loop-rest.rest.now + 1) c.extent.result c.loop-rest.rest.now c.split_at.result.0.now c.split_at.result.1.now some c.extent.ensures parts.front parts.back c.place_of-place.result c.place_of-place.ensures
           (vec_items c.loop-rest.found) (vec_items c.push.new.self) (tokens_of c.args.line.number c.args.line.bytes.now) c.loop-rest.invariant.1 c.in-Some.token pushed (ap (λ o. read_part (Ok o)) (sym c.in-Some.is) ∙ c.in_ok-token.ensures)),
     )
-
-pub returns : goal.returns
-returns c =
-    let none : length c.loop-rest.rest.now ≡ 0 = search rules in
-    lexed_end _ _ _ _ _ none c.loop-rest.invariant.1

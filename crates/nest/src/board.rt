@@ -4,7 +4,6 @@ ghost use Rattle.plain_model.specs.Nest.{nest as plain_nest};
 ghost use Rattle.nest_model.specs.Model.{NestModel, steps as steps_of};
 ghost use Rattle.nest_model.specs.Meaning.{means as meaning};
 ghost use Rattle.nest_model.specs.Sound.{Sound};
-ghost use Rattle.nest.specs.View.{model_of};
 ghost use Rattle.nest_model.proofs.Laws;
 
 use crate::Nest;
@@ -12,6 +11,7 @@ use boards::board::Board;
 use boards::outcome::Outcome;
 use boards::station::Station;
 use keys::key::Key;
+use nest_model::pending::Pending;
 use nest_model::step::Step;
 use nest_model::work::Work;
 use plain_model::nest_op::{NestAnswer, NestOp};
@@ -27,7 +27,7 @@ impl<K: Key> Board for Nest<K> {
 
     ghost Model = { NestModel K };
 
-    ghost model = { model_of };
+    ghost model = { λ n. n };
 
     ghost plain = { plain_nest K.before };
 
@@ -40,29 +40,31 @@ impl<K: Key> Board for Nest<K> {
     ghost laws = { Laws.laws K.Key.total };
 
     fn begin(&mut self, station: usize, op: &NestOp<K>) -> bool {
-        let exists = 1 <= station && station <= self.stations();
         let free = matches!(self.work(station), Work::Free);
-        if exists && (free && self.space(op)) {
+        let may_begin = self.exists(station) && (free && self.space(op));
+        if may_begin {
             self.enter(station, *op);
-            true
-        } else {
-            false
         }
+        may_begin
     }
 
     // The registers are read, and what follows from them changes at most one cell.
     fn touch(&mut self, station: usize) -> (Outcome, Option<NestAnswer>) {
         match self.work(station) {
             Work::Free | Work::Ready(_, _, _) => (Outcome::Idle, None),
-            Work::Waiting(op, own, phase, old) => {
-                let registers = self.readings(phase, old);
-                match self.follow(op, own, phase, registers) {
-                    Step::Goes(next) => {
-                        self.put(station, Work::Waiting(op, own, next, registers));
+            Work::Waiting(pending) => {
+                let registers = self.readings(pending.phase, pending.registers);
+                let read = Pending {
+                    registers,
+                    ..pending
+                };
+                match self.follow(read) {
+                    Step::Continue(phase) => {
+                        self.put(station, Work::Waiting(Pending { phase, ..read }));
                         (Outcome::Going, None)
                     }
-                    Step::Says(answer) => {
-                        self.put(station, Work::Ready(op, answer, registers));
+                    Step::Break(answer) => {
+                        self.put(station, Work::Ready(read.op, answer, registers));
                         (Outcome::CountedReady, Some(answer))
                     }
                 }
@@ -87,7 +89,7 @@ impl<K: Key> Board for Nest<K> {
     fn station(&self, station: usize) -> Station<NestOp<K>, NestAnswer> {
         match self.work(station) {
             Work::Free => Station::Free,
-            Work::Waiting(op, _, _, _) => Station::Uncounted(op),
+            Work::Waiting(pending) => Station::Uncounted(pending.op),
             Work::Ready(op, answer, _) => Station::Ready(op, answer),
         }
     }
@@ -97,18 +99,20 @@ impl<K: Key> Board for Nest<K> {
     }
 
     fn items(&self) -> usize {
-        self.count()
+        self.keys().count()
     }
 
     fn item(&self, place: usize) -> Option<K> {
-        self.key_at(place)
+        self.keys().nth(place)
     }
 
     fn show(&self, list: &mut [K]) -> bool {
-        if self.count() > list.len() {
+        if self.keys().count() > list.len() {
             return false;
         }
-        self.list(list);
+        for (place, key) in self.keys().enumerate() {
+            list[place] = key;
+        }
         true
     }
 }

@@ -1,11 +1,9 @@
 // How a nest is made.
-ghost use Rattle.std.specs.Prelude.{◌≡◌, ◌≤◌, ◌&&◌, [], length, replicate, vec_len, nat_le};
+ghost use Rattle.std.specs.Prelude.{◌≡◌, ◌≤◌, [], length, vec_len};
 ghost use Rattle.boards.specs.Board.{Fresh};
-ghost use Rattle.nest_model.specs.Making.{is_long, refusal, accepted, joined, made};
+ghost use Rattle.nest_model.specs.Making.{refusal, accepted, joined, made};
 ghost use Rattle.nest_model.specs.Meaning.{means};
 ghost use Rattle.nest_model.specs.Sound.{Sound};
-ghost use Rattle.nest_model.specs.declared.work.Work.TheVariants.{Free};
-ghost use Rattle.nest.specs.View.{model_of};
 
 use crate::Nest;
 use crate::nodes::{BACK, FRONT, link};
@@ -25,13 +23,13 @@ impl<K: Copy> Nest<K> {
     ) -> Result<(), Refusal>
         ensures { result ≡ refusal stations size (length nodes.now) (length works.now) }
     {
-        if !is_within(1, stations, 16) {
+        if !(1..=16).contains(&stations) {
             return Err(Refusal::StationCount);
         }
-        if !is_within(1, size, 512) {
+        if !(1..=512).contains(&size) {
             return Err(Refusal::NestSize);
         }
-        if !is_long(stations, size, nodes.len(), works.len()) {
+        if nodes.len() < size + 2 || works.len() < stations {
             return Err(Refusal::ShortTable);
         }
         Ok(())
@@ -40,18 +38,21 @@ impl<K: Copy> Nest<K> {
 
 impl<K: Key> Nest<K> {
     // An empty nest over tables that `check` accepted, which are cut to the length that is needed.
-    pub fn new(stations: usize, size: usize, nodes: Vec<Node<K>>, works: Vec<Work<K>>) -> Nest<K>
+    pub fn new(
+        stations: usize,
+        size: usize,
+        mut nodes: Vec<Node<K>>,
+        mut works: Vec<Work<K>>,
+    ) -> Nest<K>
         requires { refusal stations size (vec_len nodes) (vec_len works) ≡ accepted }
-        ensures is { model_of result ≡ made stations size nodes.items }
-        ensures sound { Sound K.before (model_of result) }
-        ensures fresh { Fresh (means K.before) [] (model_of result) }
+        ensures is { result ≡ made stations size nodes.items }
+        ensures sound { Sound K.before (result) }
+        ensures fresh { Fresh (means K.before) [] (result) }
     {
-        let mut nodes = nodes;
-        let mut works = works;
         nodes.truncate(size + 2);
         join(&mut nodes);
         works.truncate(stations);
-        clear(&mut works);
+        works.fill(Work::Free);
         Nest {
             size,
             taken: 0,
@@ -61,21 +62,6 @@ impl<K: Key> Nest<K> {
     }
 }
 
-// Is the number from one bound to another?
-fn is_within(least: usize, number: usize, most: usize) -> bool
-    ensures { result ≡ (nat_le least number && nat_le number most) }
-{
-    least <= number && number <= most
-}
-
-// Are the tables long enough, of nodes and of stations?
-fn is_long(stations: usize, size: usize, nodes: usize, works: usize) -> bool
-    requires { size ≤ 512 }
-    ensures { result ≡ is_long stations size nodes works }
-{
-    size + 2 <= nodes && stations <= works
-}
-
 // Lets the front lead to the back.
 fn join<K: Copy>(nodes: &mut Vec<Node<K>>)
     requires { 2 ≤ length nodes.old.items }
@@ -83,13 +69,4 @@ fn join<K: Copy>(nodes: &mut Vec<Node<K>>)
 {
     nodes[FRONT].cell = link(Some(BACK));
     nodes[BACK].cell = link(None);
-}
-
-// Frees every station of a table.
-fn clear<K: Copy>(works: &mut Vec<Work<K>>)
-    ensures { works.new.items ≡ replicate (vec_len works.old) Free }
-{
-    for i in 0..works.len() {
-        works[i] = Work::Free;
-    }
 }

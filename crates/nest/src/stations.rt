@@ -1,11 +1,11 @@
 // How the station table is read and written.
 ghost use Rattle.std.specs.Prelude.{◌≡◌, true};
 ghost use Rattle.nest_model.specs.Model.{work_at, with, space as has_space, enter as entered, own_node, reserved};
-ghost use Rattle.nest.specs.View.{model_of};
 
 use crate::Nest;
 use crate::nodes::link;
 use nest_model::node::Node;
+use nest_model::pending::Pending;
 use nest_model::phase::Phase;
 use nest_model::registers::Registers;
 use nest_model::work::Work;
@@ -23,29 +23,28 @@ const UNSET: Registers = Registers {
 impl<K: Copy> Nest<K> {
     // What a station is at. Stations are numbered from 1, and one that does not exist is free.
     pub(crate) fn work(&self, station: usize) -> Work<K>
-        ensures { result ≡ work_at (model_of self.now).works station }
+        ensures { result ≡ work_at self.now.works station }
     {
         if station == 0 {
             return Work::Free;
         }
-        match self.works.get(station - 1) {
-            Some(work) => *work,
-            None => Work::Free,
-        }
+        self.works.get(station - 1).copied().unwrap_or(Work::Free)
     }
 
     // Gives a station other work.
     pub(crate) fn put(&mut self, station: usize, work: Work<K>)
-        ensures { model_of self.new ≡ with (model_of self.old) (model_of self.old).nodes station work }
+        ensures { self.new ≡ with self.old self.old.nodes station work }
     {
-        if station > 0 && station - 1 < self.works.len() {
-            self.works[station - 1] = work;
+        if station > 0 {
+            if let Some(seat) = self.works.get_mut(station - 1) {
+                *seat = work;
+            }
         }
     }
 
     // Is there a node left for an add? Other operations take none.
     pub(crate) fn has_space(&self, op: NestOp<K>) -> bool
-        ensures { result ≡ has_space (model_of self.now) op }
+        ensures { result ≡ has_space self.now op }
     {
         match op {
             NestOp::Add(_) => self.taken < self.size,
@@ -55,9 +54,9 @@ impl<K: Copy> Nest<K> {
 
     // Takes the next unused node for an add.
     fn reserve(&mut self, op: NestOp<K>) -> Option<usize>
-        requires { has_space (model_of self.old) op ≡ true }
-        ensures told { result ≡ own_node (model_of self.old) op }
-        ensures left { model_of self.new ≡ reserved (model_of self.old) op }
+        requires { has_space self.old op ≡ true }
+        ensures told { result ≡ own_node self.old op }
+        ensures left { self.new ≡ reserved self.old op }
     {
         match op {
             NestOp::Add(key) => {
@@ -75,10 +74,18 @@ impl<K: Copy> Nest<K> {
 
     // Hands an operation to a station: it is to begin at the front, with no register set.
     pub(crate) fn enter(&mut self, station: usize, op: NestOp<K>)
-        requires { has_space (model_of self.old) op ≡ true }
-        ensures { model_of self.new ≡ entered (model_of self.old) station op }
+        requires { has_space self.old op ≡ true }
+        ensures { self.new ≡ entered self.old station op }
     {
         let own = self.reserve(op);
-        self.put(station, Work::Waiting(op, own, Phase::N1, UNSET));
+        self.put(
+            station,
+            Work::Waiting(Pending {
+                op,
+                own,
+                phase: Phase::N1,
+                registers: UNSET,
+            }),
+        );
     }
 }

@@ -14,7 +14,7 @@ use Rattle.nest_model.specs.declared.work.Work.{Work}
 use Rattle.nest_model.specs.declared.work.Work.TheVariants.{Free, Waiting, Ready}
 use Rattle.nest_model.specs.Cells.{node, link, cell_at, key_at}
 use Rattle.nest_model.specs.Table.{unset}
-use Rattle.nest_model.specs.Model.{NestModel, work_at, put_at, with, station_of, space, may_begin, enter}
+use Rattle.nest_model.specs.Model.{NestModel, work_at, put_at, with, station_of, space, may_begin, enter, waiting}
 use Rattle.nest_model.specs.Live.{live}
 use Rattle.nest_model.specs.Meaning.{contents, work_distance, means}
 use Rattle.nest_model.specs.Sound.{Works, Sound}
@@ -28,7 +28,7 @@ use Rattle.nest_model.proofs.Stations.{heap_of, stay, sound_put, waiting_own, no
 module _ {K : Type 0} (before : K → K → Bool) where
   work_distance_lem : (m : NestModel K) (p : ℕ) (w v : Work K) → work_distance before (with m m.nodes p w) v ≡ work_distance before m v
   work_distance_lem m p w Free = refl
-  work_distance_lem m p w (Waiting o own ph r) = refl
+  work_distance_lem m p w (Waiting v) = refl
   work_distance_lem m p w (Ready o a r) = refl
 
   pub put_distance : (m : NestModel K) (p : ℕ) (w : Work K) (q : ℕ) → q ≢ p →
@@ -46,9 +46,9 @@ module _ {K : Type 0} (before : K → K → Bool) where
 
 module _ {K : Type 0} where
   enter_waits : (m : NestModel K) (p : ℕ) (o : NestOp K) → Here m.works p → station_of (work_at (enter m p o).works p) ≡ station.Uncounted o
-  enter_waits m p (Add k) h = ap station_of (put_same m.works p (Waiting (Add k) (Some (m.taken + 2)) N1 unset) h)
-  enter_waits m p (Drop k) h = ap station_of (put_same m.works p (Waiting (Drop k) None N1 unset) h)
-  enter_waits m p (Find k) h = ap station_of (put_same m.works p (Waiting (Find k) None N1 unset) h)
+  enter_waits m p (Add k) h = ap station_of (put_same m.works p (waiting (Add k) (Some (m.taken + 2)) N1 unset) h)
+  enter_waits m p (Drop k) h = ap station_of (put_same m.works p (waiting (Drop k) None N1 unset) h)
+  enter_waits m p (Find k) h = ap station_of (put_same m.works p (waiting (Find k) None N1 unset) h)
 
   may_here : (m : NestModel K) (p : ℕ) (o : NestOp K) → may_begin m p o ≡ true → Here m.works p
   may_here m p o e = here_by m.works p (and_parts (leb 1 p && leb p (length m.works)) _ e).0
@@ -95,14 +95,14 @@ module _ {K : Type 0} {before : K → K → Bool} (total : Total before) where
         (λ q d n o z.
         let out = owns_out before (cell_at m.nodes) (key_at m.nodes) (m.taken + 2) s.linked (work_at m.works q) n (s.each q) o in
         omega (arith, out.1))
-        (enter m p (Add k)) (Waiting (Add k) (Some (m.taken + 2)) N1 unset) refl (omega arith) (length-set m.nodes (m.taken + 2) _ ∙ s.tabled) _ refl grown
+        (enter m p (Add k)) (waiting (Add k) (Some (m.taken + 2)) N1 unset) refl (omega arith) (length-set m.nodes (m.taken + 2) _ ∙ s.tabled) _ refl grown
         (waiting_own total (Some (m.taken + 2))) ((new_out, omega arith, key_new m.nodes (record { key = k; cell = link None }) m.taken (omega arith), refl), tt, tt)
 
     grown_distance : (w : Work K) → Works before (cell_at m.nodes) (key_at m.nodes) (m.taken + 2) s.linked w →
         work_distance before (enter m p (Add k)) w ≡ work_distance before m w
     grown_distance Free g = refl
     grown_distance (Ready o a r) g = refl
-    grown_distance (Waiting o own ph r) g = remaining_kept (heap_of total m s) (cell_at table) (key_at table) in_cell in_key o (node own) (live ph r) g.1
+    grown_distance (Waiting w) g = remaining_kept (heap_of total m s) (cell_at table) (key_at table) in_cell in_key w.op (node w.own) (live w.phase w.registers) g.1
 
     grown_contents : contents (enter m p (Add k)) ≡ contents m
     grown_contents = list_all (heap_of total m s) (cell_at table) in_cell (key_at table) in_key (m.taken + 2) (omega arith) (m.size + 2)
@@ -110,18 +110,18 @@ module _ {K : Type 0} {before : K → K → Bool} (total : Total before) where
   enter_sound : (m : NestModel K) (s : Sound before m) (p : ℕ) (o : NestOp K) → Here m.works p → space m o ≡ true → Sound before (enter m p o)
   enter_sound m s p (Add k) h r = add_sound m s p k h (ltb-true m.taken m.size r)
   enter_sound m s p (Drop k) h r =
-      sound_put total m s p h 1 (λ q d n. back_apart total m s q n) (enter m p (Drop k)) (Waiting (Drop k) None N1 unset) refl s.enough s.tabled _ refl (stay total m s 1)
+      sound_put total m s p h 1 (λ q d n. back_apart total m s q n) (enter m p (Drop k)) (waiting (Drop k) None N1 unset) refl s.enough s.tabled _ refl (stay total m s 1)
       (λ n e. none_own total n e) (refl, tt, tt)
   enter_sound m s p (Find k) h r =
-      sound_put total m s p h 1 (λ q d n. back_apart total m s q n) (enter m p (Find k)) (Waiting (Find k) None N1 unset) refl s.enough s.tabled _ refl (stay total m s 1)
+      sound_put total m s p h 1 (λ q d n. back_apart total m s q n) (enter m p (Find k)) (waiting (Find k) None N1 unset) refl s.enough s.tabled _ refl (stay total m s 1)
       (λ n e. none_own total n e) (refl, tt, tt)
 
   enter_distances : (m : NestModel K) (s : Sound before m) (p : ℕ) (o : NestOp K) (q : ℕ) → q ≢ p →
       work_distance before (enter m p o) (work_at (enter m p o).works q) ≡ work_distance before m (work_at m.works q)
   enter_distances m s p (Add k) q d =
-      ap (work_distance before (enter m p (Add k))) (put_other m.works p (Waiting (Add k) (Some (m.taken + 2)) N1 unset) q d) ∙ grown_distance m s p k (work_at m.works q) (s.each q)
-  enter_distances m s p (Drop k) q d = put_distance before m p (Waiting (Drop k) None N1 unset) q d
-  enter_distances m s p (Find k) q d = put_distance before m p (Waiting (Find k) None N1 unset) q d
+      ap (work_distance before (enter m p (Add k))) (put_other m.works p (waiting (Add k) (Some (m.taken + 2)) N1 unset) q d) ∙ grown_distance m s p k (work_at m.works q) (s.each q)
+  enter_distances m s p (Drop k) q d = put_distance before m p (waiting (Drop k) None N1 unset) q d
+  enter_distances m s p (Find k) q d = put_distance before m p (waiting (Find k) None N1 unset) q d
 
   enter_contents : (m : NestModel K) (s : Sound before m) (p : ℕ) (o : NestOp K) → contents (enter m p o) ≡ contents m
   enter_contents m s p (Add k) = grown_contents m s p k

@@ -2,7 +2,7 @@
 use Rattle.std.proofs.Common.{◌≡◌, ℕ, suc, ◌+◌, ◌<◌, ◌≤◌, Bool, true, false, cond, not, eqb, ◌≢◌, List, Some, None, Option, sym, refl, ap, ◌∙◌, subst, true≢false, arith}
 use mathlib.Core.Bool.{false≢true}
 use Rattle.std.proofs.lemmas.Bool.{eq-eqb, ne_eqb, eqb-true, or_from, and_parts, and_from}
-use Rattle.plain_model.specs.Nest.{apply}
+use Rattle.plain_model.specs.Nest.{apply, key_of}
 use Rattle.plain_model.specs.declared.nest_op.NestOp.{NestOp}
 use Rattle.plain_model.specs.declared.nest_op.NestOp.TheVariants.{Add, Drop, Find}
 use Rattle.plain_model.specs.declared.nest_op.NestAnswer.{NestAnswer}
@@ -10,7 +10,6 @@ use Rattle.plain_model.specs.declared.nest_op.NestAnswer.TheVariants.{Added, Dro
 use Rattle.nest_model.specs.declared.cell.Cell.{Cell}
 use Rattle.nest_model.specs.Ends.{Extended, Mid, lt, Lt, Le, is_key}
 use Rattle.nest_model.specs.Cells.{node, link, gone, same_node, same_mark}
-use Rattle.nest_model.specs.Table.{key_of}
 use Rattle.nest_model.specs.Chain.{after, listing, Reach, Leads}
 use Rattle.nest_model.specs.Live.{Live, Start, Walk, Skip, Unlink, Insert, Strike, Names, still, remaining}
 use Rattle.nest_model.specs.Sound.{Chained, Held, Stands}

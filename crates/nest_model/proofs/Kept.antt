@@ -1,16 +1,16 @@
 -- What a step of one station leaves to the others, and the bounds of the distance.
-use Rattle.std.proofs.Common.{◌≡◌, ℕ, ◌+◌, ◌*◌, ◌<◌, ◌≤◌, Bool, true, false, cond, ◌≢◌, Some, sym, refl, ap, ◌∙◌, subst, arith}
+use Rattle.std.proofs.Common.{◌≡◌, ℕ, ◌+◌, ◌*◌, ◌<◌, ◌≤◌, Bool, true, false, cond, ◌≢◌, Some, sym, refl, ap, ◌∙◌, subst, arith, Option}
 use Rattle.plain_model.specs.declared.nest_op.NestOp.{NestOp}
 use Rattle.plain_model.specs.declared.nest_op.NestOp.TheVariants.{Add, Drop, Find}
+use Rattle.plain_model.specs.Nest.{key_of}
 use Rattle.nest_model.specs.declared.cell.Cell.{Cell}
 use Rattle.nest_model.specs.declared.work.Work.{Work}
 use Rattle.nest_model.specs.declared.work.Work.TheVariants.{Free, Waiting, Ready}
 use Rattle.nest_model.specs.Ends.{Extended, Low, Le}
 use Rattle.nest_model.specs.Cells.{node}
-use Rattle.nest_model.specs.Table.{key_of}
 use Rattle.nest_model.specs.Chain.{Leads}
-use Rattle.nest_model.specs.Live.{Live, Start, Walk, Skip, Unlink, Insert, Strike, still, remaining}
-use Rattle.nest_model.specs.Sound.{Held, Stands, Works, own_of}
+use Rattle.nest_model.specs.Live.{Live, Start, Walk, Skip, Unlink, Insert, Strike, still, remaining, live}
+use Rattle.nest_model.specs.Sound.{Held, Owns, Stands, Works, own_of}
 use Rattle.nest_model.proofs.Orders.{le_lt, low_first}
 use Rattle.nest_model.proofs.Heap.{Heap, In, next, marked_ne, far_off, far_most, leads_in, leads_after}
 use Rattle.nest_model.proofs.Sequential.{tidy}
@@ -22,10 +22,12 @@ pub owns_out : {K : Type 0} (before : K → K → Bool) (cell : ℕ → Cell) (k
     Works before cell key size linked w → own_of w ≡ Some n → (linked n ≡ false) × (n < size)
 owns_out before cell key size linked Free n h e = let z : ◌≡◌ {A = ℕ} 0 1 = cc in absurd (omega arith)
 owns_out before cell key size linked (Ready o a r) n h e = let z : ◌≡◌ {A = ℕ} 0 1 = cc in absurd (omega arith)
-owns_out before cell key size linked (Waiting (Add k) own ph r) n h e =
-    let q : node own ≡ n = ap node e in (subst (λ i. linked i ≡ false) q h.0.0, subst (λ i. i < size) q h.0.1)
-owns_out before cell key size linked (Waiting (Drop k) own ph r) n h e = let a = h.0 in let z : ◌≡◌ {A = ℕ} 0 1 = cc in absurd (omega arith)
-owns_out before cell key size linked (Waiting (Find k) own ph r) n h e = let a = h.0 in let z : ◌≡◌ {A = ℕ} 0 1 = cc in absurd (omega arith)
+owns_out {K = K} before cell key size linked (Waiting w) n h e = go w.op h.0
+  where
+    go : (o : NestOp K) → Owns before key size linked o w.own → (linked n ≡ false) × (n < size)
+    go (Add k) a = let q : node w.own ≡ n = ap node e in (subst (λ i. linked i ≡ false) q a.0, subst (λ i. i < size) q a.1)
+    go (Drop k) a = let z : ◌≡◌ {A = ℕ} 0 1 = cc in absurd (omega arith)
+    go (Find k) a = let z : ◌≡◌ {A = ℕ} 0 1 = cc in absurd (omega arith)
 
 module _ {K : Type 0} {before : K → K → Bool} (H : Heap before) (c' : ℕ → Cell) (key' : ℕ → Extended K) (size' own : ℕ) (st : Stepped H c' key' size' own) where
   leads_kept : (u n : ℕ) → In H n → Leads H.cell u n → Leads c' u n
@@ -65,18 +67,20 @@ module _ {K : Type 0} {before : K → K → Bool} (H : Heap before) (c' : ℕ �
       (st.more here s.0, key_kept here s.0 ∙ s.1, rw (key_kept then s.3) s.2, st.more then s.3)
   stands_kept (Find k) mine (Strike here then) e s = elim s [ ]
 
+  owned_kept : (o : NestOp K) (ph : Live) (mine : Option ℕ) → ((n : ℕ) → mine ≡ Some n → n ≢ own) → Owns before H.key H.size H.linked o mine →
+      Stands before H.cell H.key H.linked o (node mine) ph → Owns before key' size' st.linked o mine × Stands before c' key' st.linked o (node mine) ph
+  owned_kept (Add k) ph mine d a s =
+      let fit = a.1 in let big = st.larger in
+      let kept = st.others (node mine) fit (d (node mine) a.3) a.0 in
+      ((kept.0, omega arith, st.alike (node mine) fit ∙ a.2, a.3), stands_kept (Add k) (node mine) ph (λ j e. kept.1) s)
+  owned_kept (Drop k) ph mine d a s = (a, stands_kept (Drop k) (node mine) ph (λ j e. let z : ◌≡◌ {A = ℕ} 0 1 = cc in absurd (omega arith)) s)
+  owned_kept (Find k) ph mine d a s = (a, stands_kept (Find k) (node mine) ph (λ j e. let z : ◌≡◌ {A = ℕ} 0 1 = cc in absurd (omega arith)) s)
+
   pub works_kept : (w : Work K) → ((n : ℕ) → own_of w ≡ Some n → n ≢ own) → Works before H.cell H.key H.size H.linked w →
       Works before c' key' size' st.linked w
   works_kept Free d h = tt
   works_kept (Ready o a r) d h = tt
-  works_kept (Waiting (Add k) mine ph r) d h =
-      let fit = h.0.1 in let big = st.larger in
-      let kept = st.others (node mine) fit (d (node mine) h.0.3) h.0.0 in
-      ((kept.0, omega arith, st.alike (node mine) fit ∙ h.0.2, h.0.3), stands_kept (Add k) (node mine) _ (λ j e. kept.1) h.1, h.2)
-  works_kept (Waiting (Drop k) mine ph r) d h =
-      (h.0, stands_kept (Drop k) (node mine) _ (λ j e. let z : ◌≡◌ {A = ℕ} 0 1 = cc in absurd (omega arith)) h.1, h.2)
-  works_kept (Waiting (Find k) mine ph r) d h =
-      (h.0, stands_kept (Find k) (node mine) _ (λ j e. let z : ◌≡◌ {A = ℕ} 0 1 = cc in absurd (omega arith)) h.1, h.2)
+  works_kept (Waiting w) d h = let k = owned_kept w.op (live w.phase w.registers) w.own d h.0 h.1 in (k.0, k.1, h.2)
 
 -- a heap that differs in no linked node: each station is as far from its answer
 module _ {K : Type 0} {before : K → K → Bool} (H : Heap before) (c' : ℕ → Cell) (key' : ℕ → Extended K) (agree : (n : ℕ) → In H n → c' n ≡ H.cell n) (alike : (n : ℕ) → In H n → key' n ≡ H.key n) where

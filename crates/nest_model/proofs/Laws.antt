@@ -23,44 +23,44 @@ use Rattle.nest_model.proofs.Begins.{put_distance, begin_others, begin_waits, be
 module _ {K : Type 0} (before : K → K → Bool) where
   release_others : (m : NestModel K) (p : ℕ) (w : Work K) → KeepsOthers (means before) m (leave m p w) p
   release_others m p Free = record { stations = refl; bound = refl; station = λ q d. refl }
-  release_others m p (Waiting o own ph r) = record { stations = refl; bound = refl; station = λ q d. refl }
+  release_others m p (Waiting w) = record { stations = refl; bound = refl; station = λ q d. refl }
   release_others m p (Ready o a r) = record { stations = put_length m.works p Free; bound = refl; station = λ q d. ap station_of (put_other m.works p Free q d) }
 
   release_distances : (m : NestModel K) (p : ℕ) (w : Work K) (q : ℕ) → q ≢ p →
       work_distance before (leave m p w) (work_at (leave m p w).works q) ≡ work_distance before m (work_at m.works q)
   release_distances m p Free q d = refl
-  release_distances m p (Waiting o own ph r) q d = refl
+  release_distances m p (Waiting w) q d = refl
   release_distances m p (Ready o a r) q d = put_distance before m p Free q d
 
 module _ {K : Type 0} where
   release_frees : (m : NestModel K) (p : ℕ) (o : NestOp K) (a : NestAnswer) (w : Work K) → work_at m.works p ≡ w → station_of w ≡ station.Ready o a →
       station_of (work_at (leave m p w).works p) ≡ station.Free
   release_frees m p o a Free e q = let z : ◌≡◌ {A = ℕ} 0 1 = cc in absurd (omega arith)
-  release_frees m p o a (Waiting o' own ph r) e q = let z : ◌≡◌ {A = ℕ} 0 1 = cc in absurd (omega arith)
+  release_frees m p o a (Waiting w) e q = let z : ◌≡◌ {A = ℕ} 0 1 = cc in absurd (omega arith)
   release_frees m p o a (Ready o' a' r) e q =
       ap station_of (put_same m.works p Free (here_work m.works p (Ready o' a' r) e (λ t. let z : ◌≡◌ {A = ℕ} 0 1 = cc in omega arith)))
 
   release_idle : (m : NestModel K) (p : ℕ) (w : Work K) → ((o : NestOp K) (a : NestAnswer) → station_of w ≡ station.Ready o a → ⊥) → leave m p w ≡ m
   release_idle m p Free n = refl
-  release_idle m p (Waiting o own ph r) n = refl
+  release_idle m p (Waiting w) n = refl
   release_idle m p (Ready o a r) n = absurd (n o a refl)
 
   release_contents : (m : NestModel K) (p : ℕ) (w : Work K) → contents (leave m p w) ≡ contents m
   release_contents m p Free = refl
-  release_contents m p (Waiting o own ph r) = refl
+  release_contents m p (Waiting w) = refl
   release_contents m p (Ready o a r) = refl
 
   release_space : (m : NestModel K) (p : ℕ) (w : Work K) (o : NestOp K) → space (leave m p w) o ≡ space m o
   release_space m p w (Drop k) = refl
   release_space m p w (Find k) = refl
   release_space m p Free (Add k) = refl
-  release_space m p (Waiting o own ph r) (Add k) = refl
+  release_space m p (Waiting w) (Add k) = refl
   release_space m p (Ready o a r) (Add k) = refl
 
 module _ {K : Type 0} {before : K → K → Bool} (total : Total before) where
   release_sound : (m : NestModel K) (s : Sound before m) (p : ℕ) (w : Work K) → work_at m.works p ≡ w → Sound before (leave m p w)
   release_sound m s p Free e = s
-  release_sound m s p (Waiting o own ph r) e = s
+  release_sound m s p (Waiting w) e = s
   release_sound m s p (Ready o a r) e =
       sound_put total m s p (here_work m.works p (Ready o a r) e (λ q. let z : ◌≡◌ {A = ℕ} 0 1 = cc in omega arith)) 1 (λ q d n. back_apart total m s q n)
       (with m m.nodes p Free) Free refl s.enough s.tabled _ refl (stay total m s 1) (λ n q. none_own total n q) tt

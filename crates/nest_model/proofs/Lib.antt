@@ -15,4 +15,3 @@ pub mod Begins
 pub mod Laws
 pub mod Made
 pub mod Walks
-pub mod Follows

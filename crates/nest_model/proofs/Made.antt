@@ -53,6 +53,17 @@ sizes stations size nodes works e = go _ _ _ refl refl refl e
           long_works = leb-true stations works k.1;
         }
 
+-- what a check says once it let the number of stations pass
+module _ (stations size nodes works : ℕ) (s : (leb 1 stations && leb stations 16) ≡ true) where
+  pub size_refused : (leb 1 size && leb size 512) ≡ false → Err NestSize ≡ refusal stations size nodes works
+  size_refused n = rw (s, n) refl
+
+  pub table_refused : (leb 1 size && leb size 512) ≡ true → is_long stations size nodes works ≡ false → Err ShortTable ≡ refusal stations size nodes works
+  table_refused n t = rw (s, n, t) refl
+
+  pub all_accepted : (leb 1 size && leb size 512) ≡ true → is_long stations size nodes works ≡ true → accepted ≡ refusal stations size nodes works
+  all_accepted n t = rw (s, n, t) refl
+
 module _ {K : Type 0} (stations size : ℕ) (ns : List (Node K)) (long : size + 2 ≤ length ns) where
   abbrev table : List (Node K)
   table = (made stations size ns).nodes

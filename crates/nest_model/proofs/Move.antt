@@ -4,10 +4,10 @@ use Rattle.plain_model.specs.declared.nest_op.NestOp.{NestOp}
 use Rattle.plain_model.specs.declared.nest_op.NestOp.TheVariants.{Add, Drop, Find}
 use Rattle.plain_model.specs.declared.nest_op.NestAnswer.{NestAnswer}
 use Rattle.plain_model.specs.declared.nest_op.NestAnswer.TheVariants.{Added, There, Dropped, Missing, Yes, No}
+use Rattle.plain_model.specs.Nest.{key_of}
 use Rattle.nest_model.specs.declared.cell.Cell.{Cell}
 use Rattle.nest_model.specs.Ends.{Extended, Mid, lt, is_key}
 use Rattle.nest_model.specs.Cells.{front, link, gone}
-use Rattle.nest_model.specs.Table.{key_of}
 use Rattle.nest_model.specs.Chain.{after}
 use Rattle.nest_model.specs.Live.{Live, Start, Walk, Skip, Unlink, Insert, Strike, still}
 

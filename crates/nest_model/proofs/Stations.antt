@@ -7,9 +7,8 @@ use Rattle.plain_model.specs.declared.nest_op.NestOp.TheVariants.{Add, Drop, Fin
 use Rattle.nest_model.specs.declared.phase.Phase.{Phase}
 use Rattle.nest_model.specs.declared.registers.Registers.{Registers}
 use Rattle.nest_model.specs.declared.work.Work.{Work}
-use Rattle.nest_model.specs.declared.work.Work.TheVariants.{Waiting}
 use Rattle.nest_model.specs.Cells.{node, cell_at, key_at}
-use Rattle.nest_model.specs.Model.{NestModel, work_at, put_at}
+use Rattle.nest_model.specs.Model.{NestModel, work_at, put_at, waiting}
 use Rattle.nest_model.specs.Sound.{Owns, Works, own_of, Sound}
 use Rattle.nest_model.proofs.Heap.{Heap}
 use Rattle.nest_model.proofs.Kept.{owns_out, works_kept}
@@ -89,7 +88,7 @@ module _ {K : Type 0} {before : K → K → Bool} (total : Total before) where
       let out = owns_out before (cell_at m.nodes) (key_at m.nodes) (m.taken + 2) s.linked (work_at m.works q) n (s.each q) e in
       true≢false (sym s.chain.back_in ∙ ap s.linked (sym z) ∙ out.0)
 
-  pub own_apart : (m : NestModel K) (s : Sound before m) (p : ℕ) (o : NestOp K) (own : Option ℕ) (ph : Phase) (r : Registers) → work_at m.works p ≡ Waiting o own ph r →
+  pub own_apart : (m : NestModel K) (s : Sound before m) (p : ℕ) (o : NestOp K) (own : Option ℕ) (ph : Phase) (r : Registers) → work_at m.works p ≡ waiting o own ph r →
       Owns before (key_at m.nodes) (m.taken + 2) s.linked o own →
       (q : ℕ) → q ≢ p → (n : ℕ) → own_of (work_at m.works q) ≡ Some n → n ≢ node own
   own_apart m s p (Add k) own ph r at_p owns q d n e z = s.apart q p d n e (ap own_of at_p ∙ owns.3 ∙ ap Some (sym z))

@@ -2,7 +2,7 @@
 use Rattle.std.proofs.Common.{◌≡◌, ℕ, ◌+◌, ◌*◌, ◌<◌, ◌≤◌, Bool, true, false, ◌≢◌, List, length, Some, None, Option, sym, refl, ap, ◌∙◌, subst, true≢false, arith}
 use mathlib.Core.Bool.{false≢true}
 use Rattle.keys.specs.Order.{Total}
-use Rattle.plain_model.specs.Nest.{nest}
+use Rattle.plain_model.specs.Nest.{nest, key_of}
 use Rattle.plain_model.specs.declared.nest_op.NestOp.{NestOp}
 use Rattle.plain_model.specs.declared.nest_op.NestOp.TheVariants.{Add, Drop, Find}
 use Rattle.plain_model.specs.declared.nest_op.NestAnswer.{NestAnswer}
@@ -15,13 +15,12 @@ use Rattle.nest_model.specs.declared.node.Node.{Node}
 use Rattle.nest_model.specs.declared.phase.Phase.{Phase}
 use Rattle.nest_model.specs.declared.phase.Phase.TheVariants.{N1, N2, N3, N4, N5, N6}
 use Rattle.nest_model.specs.declared.registers.Registers.{Registers}
-use Rattle.nest_model.specs.declared.step.Step.{Step}
 use Rattle.nest_model.specs.declared.work.Work.{Work}
 use Rattle.nest_model.specs.declared.work.Work.TheVariants.{Free, Waiting, Ready}
 use Rattle.nest_model.specs.Ends.{Extended}
 use Rattle.nest_model.specs.Cells.{node, cell_at, key_at, written}
-use Rattle.nest_model.specs.Table.{key_of, readings, touched}
-use Rattle.nest_model.specs.Model.{NestModel, work_at, with, station_of, stepped, tells, act}
+use Rattle.nest_model.specs.Table.{Step, readings, touched}
+use Rattle.nest_model.specs.Model.{NestModel, work_at, with, station_of, stepped, tells, act, waiting}
 use Rattle.nest_model.specs.Chain.{listing}
 use Rattle.nest_model.specs.Live.{Live, live, remaining}
 use Rattle.nest_model.specs.Meaning.{contents, work_distance, means}
@@ -53,12 +52,12 @@ module _ {K : Type 0} {before : K → K → Bool} (total : Total before) where
   own_set key size linked (Find k) own h = tt
 
   -- a touch of a waiting station
-  module _ (m : NestModel K) (s : Sound before m) (p : ℕ) (o : NestOp K) (own : Option ℕ) (ph : Phase) (r : Registers) (at_p : work_at m.works p ≡ Waiting o own ph r) where
-    good : Works before (cell_at m.nodes) (key_at m.nodes) (m.taken + 2) s.linked (Waiting o own ph r)
+  module _ (m : NestModel K) (s : Sound before m) (p : ℕ) (o : NestOp K) (own : Option ℕ) (ph : Phase) (r : Registers) (at_p : work_at m.works p ≡ waiting o own ph r) where
+    good : Works before (cell_at m.nodes) (key_at m.nodes) (m.taken + 2) s.linked (waiting o own ph r)
     good = rw at_p at (s.each p)
 
     there : Here m.works p
-    there = here_work m.works p (Waiting o own ph r) at_p (λ e. let z : ◌≡◌ {A = ℕ} 0 1 = cc in omega arith)
+    there = here_work m.works p (waiting o own ph r) at_p (λ e. let z : ◌≡◌ {A = ℕ} 0 1 = cc in omega arith)
 
     set_at : (x : ℕ) (v : Cell) → x < m.taken + 2 → cell_at (written m.nodes x v) x ≡ v
     set_at x v f = cell_written m.nodes x v (let a = s.enough in let b = s.tabled in omega arith)
@@ -97,7 +96,7 @@ module _ {K : Type 0} {before : K → K → Bool} (total : Total before) where
     carry_sound : {mv : Move} {r' : Registers} {ns' : List (Node K)} {st : Step} → Carries m.nodes mv r' ns' st → Fine (heap_of total m s) o (node own) (live ph r) mv →
         Sound before (with m ns' p (stepped o own r' st))
     carry_sound (to_go {ph = ph'} {r = r'} e all) f =
-        sound_put total m s p there (node own) others_apart (with m m.nodes p (Waiting o own ph' r')) (Waiting o own ph' r') refl
+        sound_put total m s p there (node own) others_apart (with m m.nodes p (waiting o own ph' r')) (waiting o own ph' r') refl
         s.enough s.tabled _ refl (stay total m s (node own)) own_kept (good.0, rw e f.0, all)
     carry_sound (to_say {a = a} {r = r'}) f =
         sound_put total m s p there (node own) others_apart (with m m.nodes p (Ready o a r')) (Ready o a r') refl
@@ -105,8 +104,8 @@ module _ {K : Type 0} {before : K → K → Bool} (total : Total before) where
     carry_sound (to_write {x = x} {c = c} {ph = ph'} {r = r'} {v = l} q e all) f =
         let w = wrote x c l f in
         let k = key_written m.nodes x c in
-        subst (λ (v : Cell). Sound before (with m (written m.nodes x v) p (Waiting o own ph' r'))) (sym q)
-        (sound_put total m s p there (node own) others_apart (with m (written m.nodes x c) p (Waiting o own ph' r')) (Waiting o own ph' r') refl
+        subst (λ (v : Cell). Sound before (with m (written m.nodes x v) p (waiting o own ph' r'))) (sym q)
+        (sound_put total m s p there (node own) others_apart (with m (written m.nodes x c) p (waiting o own ph' r')) (waiting o own ph' r') refl
         s.enough (written_length x c) _ refl (re_keyed x c w.step) own_kept (
           subst (λ (key : ℕ → Extended K). Owns before key (m.taken + 2) w.step.linked o own) (sym k) (owns_again (key_at m.nodes) (m.taken + 2) s.linked w.step.linked o own good.0 w.owns),
           rw e (subst (λ (key : ℕ → Extended K). Stands before (cell_at (written m.nodes x c)) key w.step.linked o (node own) l) (sym k) w.stands),
@@ -125,11 +124,11 @@ module _ {K : Type 0} {before : K → K → Bool} (total : Total before) where
     carry_does : {mv : Move} {r' : Registers} {ns' : List (Node K)} {st : Step} → Carries m.nodes mv r' ns' st → Fine (heap_of total m s) o (node own) (live ph r) mv →
         Touched (nest before) (contents m) (contents (with m ns' p (stepped o own r' st))) (station.Uncounted o)
         (station_of (work_at (with m ns' p (stepped o own r' st)).works p)) (tells st).0 (tells st).1
-    carry_does (to_go {ph = ph'} {r = r'} e all) f = rw (put_same m.works p (Waiting o own ph' r') there) (goes_uncounted refl)
+    carry_does (to_go {ph = ph'} {r = r'} e all) f = rw (put_same m.works p (waiting o own ph' r') there) (goes_uncounted refl)
     carry_does (to_say {a = a} {r = r'}) f = rw (put_same m.works p (Ready o a r') there) (counts_ready f)
     carry_does (to_write {x = x} {c = c} {d = d} {ph = ph'} {r = r'} {v = l} q e all) f =
         let w = wrote x c l f in
-        rw (put_same m.works p (Waiting o own ph' r') there)
+        rw (put_same m.works p (waiting o own ph' r') there)
         (goes_uncounted (ap (λ (v : Cell). contents (with m (written m.nodes x v) p Free)) q ∙ list_written x c ∙ w.kept))
     carry_does (to_do {x = x} {c = c} {d = d} {a = a} {r = r'} q) f =
         let w = did x c a f in
@@ -138,15 +137,15 @@ module _ {K : Type 0} {before : K → K → Bool} (total : Total before) where
 
     carry_falls : {mv : Move} {r' : Registers} {ns' : List (Node K)} {st : Step} → Carries m.nodes mv r' ns' st → Fine (heap_of total m s) o (node own) (live ph r) mv →
         is_waiting (station_of (work_at (with m ns' p (stepped o own r' st)).works p)) ≡ true →
-        work_distance before (with m ns' p (stepped o own r' st)) (work_at (with m ns' p (stepped o own r' st)).works p) < work_distance before m (Waiting o own ph r)
-    carry_falls (to_go {ph = ph'} {r = r'} e all) f t = rw (put_same m.works p (Waiting o own ph' r') there) (rw e f.1)
+        work_distance before (with m ns' p (stepped o own r' st)) (work_at (with m ns' p (stepped o own r' st)).works p) < work_distance before m (waiting o own ph r)
+    carry_falls (to_go {ph = ph'} {r = r'} e all) f t = rw (put_same m.works p (waiting o own ph' r') there) (rw e f.1)
     carry_falls (to_say {a = a} {r = r'}) f t = absurd (false≢true (rw (put_same m.works p (Ready o a r') there) at t))
     carry_falls (to_write {x = x} {c = c} {d = d} {ph = ph'} {r = r'} {v = l} q e all) f t =
         let w = wrote x c l f in
-        rw (put_same m.works p (Waiting o own ph' r') there)
-        (subst (λ (v : Cell). work_distance before (with m (written m.nodes x v) p (Waiting o own ph' r')) (Waiting o own ph' r') < work_distance before m (Waiting o own ph r)) (sym q)
+        rw (put_same m.works p (waiting o own ph' r') there)
+        (subst (λ (v : Cell). work_distance before (with m (written m.nodes x v) p (waiting o own ph' r')) (waiting o own ph' r') < work_distance before m (waiting o own ph r)) (sym q)
         (rw e
-        (subst (λ (key : ℕ → Extended K). remaining before (cell_at (written m.nodes x c)) key m.size (key_of o) l < work_distance before m (Waiting o own ph r)) (sym (key_written m.nodes x c)) w.falls)))
+        (subst (λ (key : ℕ → Extended K). remaining before (cell_at (written m.nodes x c)) key m.size (key_of o) l < work_distance before m (waiting o own ph r)) (sym (key_written m.nodes x c)) w.falls)))
     carry_falls (to_do {x = x} {c = c} {d = d} {a = a} {r = r'} q) f t = absurd (false≢true (rw (put_same m.works p (Ready o a r') there) at t))
 
     -- what the touch reads leads on
@@ -189,41 +188,44 @@ module _ {K : Type 0} {before : K → K → Bool} (total : Total before) where
   pub act_sound : (m : NestModel K) (s : Sound before m) (p : ℕ) (w : Work K) → work_at m.works p ≡ w → Sound before (act before m p w).0
   act_sound m s p Free e = s
   act_sound m s p (Ready o a r) e = s
-  act_sound m s p (Waiting o own ph r) e = carry_sound m s p o own ph r e (carries m s p o own ph r e) (moves_fine m s p o own ph r e)
+  act_sound m s p (Waiting w) e = let o = w.op in let own = w.own in let ph = w.phase in let r = w.registers in
+      carry_sound m s p o own ph r e (carries m s p o own ph r e) (moves_fine m s p o own ph r e)
 
   pub act_does : (m : NestModel K) (s : Sound before m) (p : ℕ) (w : Work K) → work_at m.works p ≡ w → is_waiting (station_of w) ≡ true →
       Touched (nest before) (contents m) (contents (act before m p w).0) (station_of w)
       (station_of (work_at (act before m p w).0.works p)) (act before m p w).1.0 (act before m p w).1.1
   act_does m s p Free e t = absurd (false≢true t)
   act_does m s p (Ready o a r) e t = absurd (false≢true t)
-  act_does m s p (Waiting o own ph r) e t = carry_does m s p o own ph r e (carries m s p o own ph r e) (moves_fine m s p o own ph r e)
+  act_does m s p (Waiting w) e t = let o = w.op in let own = w.own in let ph = w.phase in let r = w.registers in
+      carry_does m s p o own ph r e (carries m s p o own ph r e) (moves_fine m s p o own ph r e)
 
   pub act_falls : (m : NestModel K) (s : Sound before m) (p : ℕ) (w : Work K) → work_at m.works p ≡ w → is_waiting (station_of w) ≡ true →
       is_waiting (station_of (work_at (act before m p w).0.works p)) ≡ true →
       work_distance before (act before m p w).0 (work_at (act before m p w).0.works p) < work_distance before m w
   act_falls m s p Free e t u = absurd (false≢true t)
   act_falls m s p (Ready o a r) e t u = absurd (false≢true t)
-  act_falls m s p (Waiting o own ph r) e t u = carry_falls m s p o own ph r e (carries m s p o own ph r e) (moves_fine m s p o own ph r e) u
+  act_falls m s p (Waiting w) e t u = let o = w.op in let own = w.own in let ph = w.phase in let r = w.registers in
+      carry_falls m s p o own ph r e (carries m s p o own ph r e) (moves_fine m s p o own ph r e) u
 
   pub act_least : (m : NestModel K) (s : Sound before m) (w : Work K) → is_waiting (station_of w) ≡ true → 1 ≤ work_distance before m w
   act_least m s Free t = absurd (false≢true t)
   act_least m s (Ready o a r) t = absurd (false≢true t)
-  act_least m s (Waiting o own ph r) t = remaining_least (heap_of total m s) o (node own) (live ph r)
+  act_least m s (Waiting w) t = remaining_least (heap_of total m s) w.op (node w.own) (live w.phase w.registers)
 
   pub act_most : (m : NestModel K) (s : Sound before m) (w : Work K) → Works before (cell_at m.nodes) (key_at m.nodes) (m.taken + 2) s.linked w →
       is_waiting (station_of w) ≡ true → work_distance before m w ≤ 3 * m.size + 7
   act_most m s Free g t = absurd (false≢true t)
   act_most m s (Ready o a r) g t = absurd (false≢true t)
-  act_most m s (Waiting o own ph r) g t = remaining_most (heap_of total m s) o (node own) (live ph r) g.1
+  act_most m s (Waiting w) g t = remaining_most (heap_of total m s) w.op (node w.own) (live w.phase w.registers) g.1
 
 module _ {K : Type 0} (before : K → K → Bool) where
   pub act_idle : (m : NestModel K) (p : ℕ) (w : Work K) → is_waiting (station_of w) ≡ false → act before m p w ≡ (m, (told.Idle, None))
   act_idle m p Free t = refl
   act_idle m p (Ready o a r) t = refl
-  act_idle m p (Waiting o own ph r) t = absurd (true≢false t)
+  act_idle m p (Waiting w) t = absurd (true≢false t)
 
   pub act_others : (m : NestModel K) (p : ℕ) (w : Work K) → KeepsOthers (means before) m (act before m p w).0 p
   act_others m p Free = record { stations = refl; bound = refl; station = λ q d. refl }
   act_others m p (Ready o a r) = record { stations = refl; bound = refl; station = λ q d. refl }
-  act_others m p (Waiting o own ph r) =
+  act_others m p (Waiting w) =
       record { stations = put_length m.works p _; bound = refl; station = λ q d. ap station_of (put_other m.works p _ q d) }

@@ -4,27 +4,27 @@ use Rattle.plain_model.specs.declared.nest_op.NestOp.{NestOp}
 use Rattle.plain_model.specs.declared.nest_op.NestOp.TheVariants.{Add, Drop, Find}
 use Rattle.plain_model.specs.declared.nest_op.NestAnswer.{NestAnswer}
 use Rattle.plain_model.specs.declared.nest_op.NestAnswer.TheVariants.{Added, Dropped}
+use Rattle.plain_model.specs.Nest.{key_of}
 use Rattle.nest_model.specs.declared.cell.Cell.{Cell}
 use Rattle.nest_model.specs.declared.node.Node.{Node}
 use Rattle.nest_model.specs.declared.phase.Phase.{Phase}
 use Rattle.nest_model.specs.declared.phase.Phase.TheVariants.{N1, N2, N3, N4, N5, N6}
 use Rattle.nest_model.specs.declared.registers.Registers.{Registers}
-use Rattle.nest_model.specs.declared.step.Step.{Step}
-use Rattle.nest_model.specs.declared.step.Step.TheVariants.{Goes, Says}
+use Rattle.std.specs.declared.ops.ControlFlow.TheVariants.{Continue, Break}
 use Rattle.nest_model.specs.Ends.{is_key}
 use Rattle.nest_model.specs.Cells.{front, node, link, gone, cell_at, key_at, written}
-use Rattle.nest_model.specs.Table.{key_of, is_place, decided, walked, readings, touched}
+use Rattle.nest_model.specs.Table.{Step, is_place, decided, walked, readings, touched}
 use Rattle.nest_model.specs.Live.{Live, Start, live, Names, AllSet, still}
 use Rattle.nest_model.proofs.Orders.{after_is}
 use Rattle.nest_model.proofs.Move.{Move, goes, writes, says, does, decide, look, far, move}
 
 -- a touch that leaves these registers, nodes and step carries out a move
 pub data Carries {K : Type 0} (ns : List (Node K)) : Move → Registers → List (Node K) → Step → Type 0 where
-  to_go : {ph : Phase} {r : Registers} {v : Live} → live ph r ≡ v → AllSet ph r → Carries ns (goes v) r ns (Goes ph)
+  to_go : {ph : Phase} {r : Registers} {v : Live} → live ph r ≡ v → AllSet ph r → Carries ns (goes v) r ns (Continue ph)
   to_write : {x : ℕ} {c d : Cell} {ph : Phase} {r : Registers} {v : Live} → d ≡ c → live ph r ≡ v → AllSet ph r →
-      Carries ns (writes x c v) r (written ns x d) (Goes ph)
-  to_say : {a : NestAnswer} {r : Registers} → Carries ns (says a) r ns (Says a)
-  to_do : {x : ℕ} {c d : Cell} {a : NestAnswer} {r : Registers} → d ≡ c → Carries ns (does x c a) r (written ns x d) (Says a)
+      Carries ns (writes x c v) r (written ns x d) (Continue ph)
+  to_say : {a : NestAnswer} {r : Registers} → Carries ns (says a) r ns (Break a)
+  to_do : {x : ℕ} {c d : Cell} {a : NestAnswer} {r : Registers} → d ≡ c → Carries ns (does x c a) r (written ns x d) (Break a)
 
 -- an add's own node is set, and the station that links one has it
 abbrev pub OwnSet : {K : Type 0} → NestOp K → Option ℕ → Type 0
@@ -133,7 +133,7 @@ module _ {K : Type 0} (before : K → K → Bool) (ns : List (Node K)) (o : Nest
   unlink_carries (Some here) next mark (Some keep) None k l h = no_name l
   unlink_carries (Some here) next mark (Some keep) (Some keptnext) k l h = go (still (cell_at ns keep) keptnext)
     where
-      go : (b : Bool) → Carries ns (cond b (writes keep (link (Some here)) Start) (goes Start)) (registers (Some here) next mark (Some keep) (Some keptnext)) (cond b (written ns keep (link (Some here))) ns) (Goes N1)
+      go : (b : Bool) → Carries ns (cond b (writes keep (link (Some here)) Start) (goes Start)) (registers (Some here) next mark (Some keep) (Some keptnext)) (cond b (written ns keep (link (Some here))) ns) (Continue N1)
       go true = to_write {ph = N1} refl refl tt
       go false = to_go {ph = N1} refl tt
 
@@ -144,7 +144,7 @@ module _ {K : Type 0} (before : K → K → Bool) (ns : List (Node K)) (o : Nest
   insert_carries (Some here) None mark keep keptnext h n w = no_name n
   insert_carries (Some here) (Some next) mark keep keptnext h n w = go (still (cell_at ns here) next)
     where
-      go : (b : Bool) → Carries ns (cond b (does here (link (Some (node own))) Added) (goes Start)) (registers (Some here) (Some next) mark keep keptnext) (cond b (written ns here (link own)) ns) (cond b (Says Added) (Goes N1))
+      go : (b : Bool) → Carries ns (cond b (does here (link (Some (node own))) Added) (goes Start)) (registers (Some here) (Some next) mark keep keptnext) (cond b (written ns here (link own)) ns) (cond b (Break Added) (Continue N1))
       go true = to_do (ap link w)
       go false = to_go {ph = N1} refl tt
 
@@ -155,7 +155,7 @@ module _ {K : Type 0} (before : K → K → Bool) (ns : List (Node K)) (o : Nest
   strike_carries (Some here) None mark keep keptnext h n = no_name n
   strike_carries (Some here) (Some next) mark keep keptnext h n = go (still (cell_at ns here) next)
     where
-      go : (b : Bool) → Carries ns (cond b (does here (gone (Some next)) Dropped) (goes Start)) (registers (Some here) (Some next) mark keep keptnext) (cond b (written ns here (gone (Some next))) ns) (cond b (Says Dropped) (Goes N1))
+      go : (b : Bool) → Carries ns (cond b (does here (gone (Some next)) Dropped) (goes Start)) (registers (Some here) (Some next) mark keep keptnext) (cond b (written ns here (gone (Some next))) ns) (cond b (Break Dropped) (Continue N1))
       go true = to_do refl
       go false = to_go {ph = N1} refl tt
 

@@ -1,8 +1,6 @@
 -- What a walk along the chain passes, step by step, and what it has written of the listing.
-use Rattle.std.proofs.Common.{◌≡◌, ℕ, zero, suc, ◌+◌, ◌-◌, ◌<◌, ◌≤◌, Bool, true, false, cond, List, [], ◌∷◌, ◌++◌, length, take, drop, set, is_some, Some, None, Option, sym, refl, ap, ◌∙◌, ap₂, true≢false, arith}
-use mathlib.Core.Bool.{false≢true}
-use Rattle.std.proofs.lemmas.Bool.{ne_eqb}
-use Rattle.std.specs.List.{slice_get}
+use Rattle.std.proofs.Common.{◌≡◌, ℕ, zero, suc, ◌+◌, ◌-◌, ◌<◌, ◌≤◌, Bool, true, false, cond, List, [], ◌∷◌, ◌++◌, length, take, drop, set, Some, None, Option, sym, refl, ap, ◌∙◌, ap₂, ⊎_elim, arith, length-drop}
+use Rattle.std.proofs.lemmas.Bool.{ne_eqb, cases_eq}
 use Rattle.boards.specs.Board.{over}
 use Rattle.nest_model.specs.declared.cell.Cell.{Cell}
 use Rattle.nest_model.specs.Ends.{Extended, Low, Mid, High}
@@ -23,31 +21,26 @@ module _ {K : Type 0} (cell : ℕ → Cell) (key : ℕ → Extended K) where
   listing_back zero = refl
   listing_back (suc f) = refl
 
-  -- one turn of a walk over at most `most` nodes
-  pub turned : (most i n : ℕ) (o : Option K) (m : ℕ) → i < most → (n ≡ back → ⊥) → o ≡ listed (cell n).mark (key n) → m ≡ after cell n →
-      listing cell key (most - i) n ≡ enlist o (listing cell key (most - (i + 1)) m)
-  turned most i n o m h ne d e =
-      let q : most - i ≡ suc (most - (i + 1)) = omega arith in
-      rw q (listing_next (most - (i + 1)) n ne ∙ ap₂ (λ (x : Option K) (y : ℕ). enlist x (listing cell key (most - (i + 1)) y)) (sym d) (sym e))
+  -- one turn of a walk over so many nodes at most
+  pub passed : (turns n : ℕ) (o : Option K) (m : ℕ) → 0 < turns → (n ≡ back → ⊥) → o ≡ listed (cell n).mark (key n) → m ≡ after cell n →
+      listing cell key turns n ≡ enlist o (listing cell key (turns - 1) m)
+  passed zero n o m h ne d e = absurd (omega arith)
+  passed (suc f) n o m h ne d e =
+      let q : suc f - 1 ≡ f = omega arith in
+      rw q (listing_next f n ne ∙ ap₂ (λ (x : Option K) (y : ℕ). enlist x (listing cell key f y)) (sym d) (sym e))
 
-  pub at_back : (f n : ℕ) → n ≡ back → listing cell key f n ≡ []
-  at_back f n e = rw e (listing_back f)
-
-  pub at_end : (most i n : ℕ) → most ≤ i → listing cell key (most - i) n ≡ []
-  at_end most i n h = let e : most - i ≡ 0 = omega arith in rw e
-
-module _ {K : Type 0} where
-  pub length_some : (o : Option K) (r l : List K) → l ≡ enlist o r → is_some o ≡ true → length l ≡ length r + 1
-  length_some None r l e b = absurd (false≢true b)
-  length_some (Some k) r l e b = omega (arith, ap length e)
-
-  pub length_none : (o : Option K) (r l : List K) → l ≡ enlist o r → is_some o ≡ false → length l ≡ length r
-  length_none None r l e b = ap length e
-  length_none (Some k) r l e b = absurd (true≢false b)
-
-  pub nth_rest : (k : K) (r : List K) (left : ℕ) → (left ≡ 0 → ⊥) → slice_get (k ∷ r) left ≡ slice_get r (left - 1)
-  nth_rest k r zero h = absurd (h refl)
-  nth_rest k r (suc i) h = let e : suc i - 1 ≡ i = omega arith in rw e
+  -- it has no more keys before it than nodes
+  pub listing_most : (f n : ℕ) → length (listing cell key f n) ≤ f
+  listing_most zero n = omega arith
+  listing_most (suc f) n =
+      ⊎_elim
+      (λ e. rw e (omega arith))
+      (λ ne. rw (listing_next f n ne) (omega (arith, enlist_most (listed (cell n).mark (key n)) (listing cell key f (after cell n)), listing_most f (after cell n))))
+      (cases_eq n back)
+    where
+      enlist_most : (o : Option K) (r : List K) → length (enlist o r) ≤ length r + 1
+      enlist_most None r = omega arith
+      enlist_most (Some k) r = omega arith
 
 -- a list whose first places were written from another
 module _ {A : Type 0} where
@@ -85,3 +78,34 @@ module _ {A : Type 0} where
   written_all (y ∷ ys) list zero e h l = let z : ◌≡◌ {A = ℕ} 0 1 = cc in absurd (omega arith)
   written_all (y ∷ ys) [] (suc at) e h l = absurd (omega arith)
   written_all (y ∷ ys) (z ∷ zs) (suc at) e h l = ap (λ (r : List A). y ∷ r) (written_all ys zs at e (omega arith) (omega arith))
+
+-- a list at whose front so many elements of another were written, and those that are left to write
+pub record Written {A : Type 0} (total before list rest : List A) (at : ℕ) : Type 0 where
+  pub within : at ≤ length total
+  pub front : list ≡ take at total ++ drop at before
+  pub others : drop at total ≡ rest
+
+module _ {A : Type 0} (total before : List A) where
+  pub written_first : (rest : List A) (at : ℕ) → at ≡ 0 → rest ≡ total → Written total before before rest at
+  written_first rest at e f = rw e (record { within = omega arith; front = refl; others = sym f })
+
+  pub written_place : (list rest : List A) (at : ℕ) (x : A) (rest' : List A) → Written total before list rest at → rest ≡ x ∷ rest' → at < length total
+  written_place list rest at x rest' w e = drop_length total at x rest' (w.others ∙ e)
+
+  pub written_next : (list rest : List A) (at : ℕ) (x : A) (rest' : List A) (place at' : ℕ) → Written total before list rest at → rest ≡ x ∷ rest' → place ≡ at → at' ≡ at + 1 →
+      length total ≤ length before → Written total before (set list place x) rest' at'
+  written_next list rest at x rest' place at' w e p f l =
+      let d = w.others ∙ e in
+      rw (p, f)
+      (record {
+        within = omega (arith, drop_length total at x rest' d);
+        front = ap (λ (r : List A). set r at x) w.front ∙ written_more total before at x rest' d l;
+        others = drop_more total at x rest' d;
+      })
+
+  pub written_last : (list rest : List A) (at : ℕ) → Written total before list rest at → rest ≡ [] → length total ≤ length before → list ≡ over total before
+  written_last list rest at w e l = w.front ∙ written_all total before at (w.others ∙ e) w.within l
+
+  -- what was written and what is left are all
+  pub written_fits : (list rest : List A) (at most : ℕ) → Written total before list rest at → length total < most → at + length rest < most
+  written_fits list rest at most w l = omega (arith, w.within, ap length w.others, length-drop at total)

@@ -9,14 +9,14 @@ use Rattle.plain_model.specs.declared.nest_op.NestOp.{NestOp}
 use Rattle.plain_model.specs.declared.nest_op.NestOp.TheVariants.{Add, Drop, Find}
 use Rattle.plain_model.specs.declared.nest_op.NestAnswer.{NestAnswer}
 use Rattle.nest_model.specs.declared.node.Node.{Node}
+use Rattle.nest_model.specs.declared.phase.Phase.{Phase}
 use Rattle.nest_model.specs.declared.phase.Phase.TheVariants.{N1}
 use Rattle.nest_model.specs.declared.registers.Registers.{Registers}
-use Rattle.nest_model.specs.declared.step.Step.{Step}
-use Rattle.nest_model.specs.declared.step.Step.TheVariants.{Goes, Says}
+use Rattle.std.specs.declared.ops.ControlFlow.TheVariants.{Continue, Break}
 use Rattle.nest_model.specs.declared.work.Work.{Work}
 use Rattle.nest_model.specs.declared.work.Work.TheVariants.{Free, Waiting, Ready}
 use Rattle.nest_model.specs.Cells.{link, cell_at}
-use Rattle.nest_model.specs.Table.{unset, readings, touched}
+use Rattle.nest_model.specs.Table.{Step, unset, readings, touched}
 
 -- `size` nodes for keys, of which the first `taken` were taken by adds; a node table of these and the two ends; the stations
 pub record NestModel (K : Type 0) : Type 0 where
@@ -27,10 +27,14 @@ pub record NestModel (K : Type 0) : Type 0 where
 
 -- what a touch tells
 abbrev pub tells : Step → Outcome × Option NestAnswer
-tells (Goes ph) = (told.Going, None)
-tells (Says a) = (told.CountedReady, Some a)
+tells (Continue ph) = (told.Going, None)
+tells (Break a) = (told.CountedReady, Some a)
 
 module _ {K : Type 0} where
+  -- the work of a station whose operation has no answer yet
+  abbrev pub waiting : NestOp K → Option ℕ → Phase → Registers → Work K
+  waiting o own ph r = Waiting (record { op = o; own = own; phase = ph; registers = r })
+
   -- stations are numbered from 1, and one that does not exist is free
   abbrev pub work_at : List (Work K) → ℕ → Work K
   work_at ws zero = Free
@@ -54,7 +58,7 @@ module _ {K : Type 0} where
 
   abbrev pub station_of : Work K → Station (NestOp K) NestAnswer
   station_of Free = station.Free
-  station_of (Waiting o own ph r) = station.Uncounted o
+  station_of (Waiting w) = station.Uncounted w.op
   station_of (Ready o a r) = station.Ready o a
 
   -- only an add takes a node
@@ -84,22 +88,22 @@ module _ {K : Type 0} where
 
   -- an operation begins at N1 with its registers unset
   abbrev pub enter : NestModel K → ℕ → NestOp K → NestModel K
-  enter m p o = with (reserved m o) (reserved m o).nodes p (Waiting o (own_node m o) N1 unset)
+  enter m p o = with (reserved m o) (reserved m o).nodes p (waiting o (own_node m o) N1 unset)
 
   abbrev pub begin : NestModel K → ℕ → NestOp K → NestModel K × Bool
   begin m p o = (cond (may_begin m p o) (enter m p o) m, may_begin m p o)
 
   -- the station's work after a touch
   abbrev pub stepped : NestOp K → Option ℕ → Registers → Step → Work K
-  stepped o own r (Goes ph) = Waiting o own ph r
-  stepped o own r (Says a) = Ready o a r
+  stepped o own r (Continue ph) = waiting o own ph r
+  stepped o own r (Break a) = Ready o a r
 
   abbrev pub settled : NestModel K → ℕ → NestOp K → Option ℕ → Registers → List (Node K) × Step → NestModel K × (Outcome × Option NestAnswer)
   settled m p o own r t = (with m t.0 p (stepped o own r t.1), tells t.1)
 
   abbrev pub leave : NestModel K → ℕ → Work K → NestModel K
   leave m p Free = m
-  leave m p (Waiting o own ph r) = m
+  leave m p (Waiting w) = m
   leave m p (Ready o a r) = with m m.nodes p Free
 
   abbrev pub release : NestModel K → ℕ → NestModel K
@@ -109,7 +113,8 @@ module _ {K : Type 0} where
     abbrev pub act : NestModel K → ℕ → Work K → NestModel K × (Outcome × Option NestAnswer)
     act m p Free = (m, (told.Idle, None))
     act m p (Ready o a r) = (m, (told.Idle, None))
-    act m p (Waiting o own ph r) = settled m p o own (readings ph r (cell_at m.nodes)) (touched before o own ph r m.nodes)
+    act m p (Waiting w) =
+        settled m p w.op w.own (readings w.phase w.registers (cell_at m.nodes)) (touched before w.op w.own w.phase w.registers m.nodes)
 
     abbrev pub touch : NestModel K → ℕ → NestModel K × (Outcome × Option NestAnswer)
     touch m p = act m p (work_at m.works p)

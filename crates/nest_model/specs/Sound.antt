@@ -2,12 +2,12 @@
 use Rattle.std.specs.Prelude.{◌≡◌, ℕ, ◌+◌, ◌<◌, ◌≤◌, Bool, true, false, ◌≢◌, length, Some, None, Option}
 use Rattle.plain_model.specs.declared.nest_op.NestOp.{NestOp}
 use Rattle.plain_model.specs.declared.nest_op.NestOp.TheVariants.{Add, Drop, Find}
+use Rattle.plain_model.specs.Nest.{key_of}
 use Rattle.nest_model.specs.declared.cell.Cell.{Cell}
 use Rattle.nest_model.specs.declared.work.Work.{Work}
 use Rattle.nest_model.specs.declared.work.Work.TheVariants.{Free, Waiting, Ready}
 use Rattle.nest_model.specs.Ends.{Extended, Low, Mid, High, Lt, Le}
 use Rattle.nest_model.specs.Cells.{front, back, node, link, cell_at, key_at}
-use Rattle.nest_model.specs.Table.{key_of}
 use Rattle.nest_model.specs.Model.{NestModel, work_at}
 use Rattle.nest_model.specs.Chain.{after, Reach, Leads}
 use Rattle.nest_model.specs.Live.{Live, Start, Walk, Skip, Unlink, Insert, Strike, live, Names, AllSet}
@@ -15,7 +15,7 @@ use Rattle.nest_model.specs.Live.{Live, Start, Walk, Skip, Unlink, Insert, Strik
 -- the node that a waiting add took
 abbrev pub own_of : {K : Type 0} → Work K → Option ℕ
 own_of Free = None
-own_of (Waiting o own ph r) = own
+own_of (Waiting w) = w.own
 own_of (Ready o a r) = None
 
 module _ {K : Type 0} (before : K → K → Bool) where
@@ -72,7 +72,8 @@ module _ {K : Type 0} (before : K → K → Bool) where
 
   abbrev pub Works : (ℕ → Cell) → (ℕ → Extended K) → ℕ → (ℕ → Bool) → Work K → Type 0
   Works cell key size linked Free = Unit {0}
-  Works cell key size linked (Waiting o own ph r) = Owns key size linked o own × Stands cell key linked o (node own) (live ph r) × AllSet ph r
+  Works cell key size linked (Waiting w) =
+      Owns key size linked w.op w.own × Stands cell key linked w.op (node w.own) (live w.phase w.registers) × AllSet w.phase w.registers
   Works cell key size linked (Ready o a r) = Unit {0}
 
   pub record Sound (m : NestModel K) : Type 0 where

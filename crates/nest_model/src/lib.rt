@@ -3,6 +3,7 @@
 
 pub mod cell;
 pub mod node;
+pub mod pending;
 pub mod phase;
 pub mod registers;
 pub mod step;

@@ -1,7 +1,7 @@
 // Which touch comes next.
 
 // The touch that a waiting station makes next.
-#[derive(Clone, Copy)]
+#[derive(Clone, Copy, PartialEq, Eq, Debug)]
 pub enum Phase {
     // read the front's cell
     N1,

@@ -6,6 +6,12 @@ use Rattle.plain_model.specs.declared.nest_op.NestAnswer.{NestAnswer}
 use Rattle.plain_model.specs.declared.nest_op.NestAnswer.TheVariants.{Added, There, Dropped, Missing, Yes, No}
 use Rattle.plain_model.specs.Machine.{Machine}
 
+-- the key that an operation is about
+abbrev pub key_of : {K : Type 0} → NestOp K → K
+key_of (op.Add k) = k
+key_of (op.Drop k) = k
+key_of (op.Find k) = k
+
 module _ {K : Type 0} (before : K → K → Bool) where
   -- neither key is before the other
   abbrev pub same : K → K → Bool

@@ -1,16 +1,18 @@
-use Rattle.std.proofs.Common.{vec_items, sym, ap, arith}
+use Rattle.std.proofs.Common.{sym, ap, subst}
 use Rattle.nest_model.specs.Model.{works_of}
-use Rattle.nest.specs.View.{model_of}
-use Rattle.nest.proofs.Reading.{put_past, put_zero}
+use Rattle.nest.specs.View.{model, IsTabled}
+use Rattle.nest.proofs.Reading.{put_in, put_past, tabled_put}
 use Rattle.nest.proofs.Nest.put.Goals as goal
-use Rattle.nest.proofs.Nest.put.Goals.{else-station-gt0-via-then-station-gt0+else-station-len, else-station-gt0-via-else-station-gt0}
 
-pub returns-else-station-gt0 : goal.returns-else-station-gt0
-returns-else-station-gt0 g c =
-    let ws = vec_items c.args.self.now.works in
-    ap (works_of (model_of c.args.self.now))
-    (sym
-    (elim c.else-station-gt0.branch [
-      | else-station-gt0-via-then-station-gt0+else-station-len w ↦ put_past ws c.args.station c.args.work (omega (arith, w.if-station-len.false, w.len.ensures, c.args.self.now.works.ok.0))
-      | else-station-gt0-via-else-station-gt0 w ↦ put_zero ws c.args.station c.args.work (omega arith)
-    ]))
+pub returns-in-Some : goal.returns-in-Some
+returns-in-Some g c =
+    let m = model c.self.inside in rw (← c.self.view_is) (ap (works_of m) (put_in m.works c.args.station c.args.work c.if-station-gt0.true))
+
+pub returns-in_default : goal.returns-in_default
+returns-in_default g c =
+    let m = model c.self.inside in rw (← c.self.view_is) (ap (works_of m) (put_past m.works c.args.station c.args.work c.in_default.ensures.item.3))
+
+pub invariant_of-self : goal.invariant_of-self
+invariant_of-self g c =
+    let m = model c.self.inside in
+    subst (λ ws. IsTabled (works_of m ws)) (sym (put_in m.works c.args.station c.args.work c.if-station-gt0.true)) (tabled_put m c.args.station c.args.work c.self.invariant)

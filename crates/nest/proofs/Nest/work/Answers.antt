@@ -1,8 +1,13 @@
-use Rattle.std.proofs.Common.{vec_items}
-use Rattle.nest.proofs.Reading.{work_past}
+use Rattle.std.proofs.Common.{Option, ap, ◌∙◌, unwrap_or}
+use Rattle.nest_model.specs.declared.work.Work.{Work}
+use Rattle.nest_model.specs.declared.work.Work.TheVariants.{Free}
+use Rattle.nest.proofs.Reading.{item_nth, work_read}
 use Rattle.nest.proofs.Nest.work.Goals as goal
 
-pub returns-in-None : goal.returns-in-None
-returns-in-None g c =
-    work_past (vec_items c.args.self.now.works) c.args.station c.if-station-eq0.false
-    (rw c.deref.ensures.value at c.in-None.ensures.lookup.3)
+pub returns : goal.returns
+returns g c =
+    let ws = c.self.inside.works.items in
+    rw (← c.self.view_is)
+    (c.unwrap_or.ensures ∙
+    ap (λ (o : Option (Work g.row.K.Denot)). unwrap_or o Free) (c.copied.ensures ∙ item_nth ws _ _ c.get.result c.deref.ensures.value c.get.ensures.lookup) ∙
+    work_read ws c.args.station c.if-station-eq0.false)

@@ -1,18 +1,25 @@
-use Rattle.std.proofs.Common.{◌≡◌, length, Some, vec_items, sym, refl, ap, arith, rules}
+use Rattle.std.proofs.Common.{◌≡◌, length, Some, sym, refl, ap, subst}
 use Rattle.std.specs.List.{slice_get}
 use Rattle.std.proofs.lemmas.Option.{slice_get_read}
 use Rattle.nest_model.specs.Model.{nodes_of}
 use Rattle.nest_model.proofs.Places.{written_some, written_past}
-use Rattle.nest.specs.View.{model_of}
+use Rattle.nest.specs.View.{model, IsTabled}
+use Rattle.nest.proofs.Reading.{tabled_written}
 use Rattle.nest.proofs.Nest.write.Goals as goal
+use Rattle.nest.proofs.Nest.write.Goals.{in-Some, in_default}
 
-pub returns-then-n-len : goal.returns-then-n-len
-returns-then-n-len g c =
-    let ns = vec_items c.args.self.now.nodes in let x = c.index_mut.result.now in
-    let e : slice_get ns c.args.n ≡ Some x = slice_get_read ns (length ns) c.args.n x refl (omega arith) (search rules) in
-    ap (nodes_of (model_of c.args.self.now)) (sym (written_some ns c.args.n c.args.cell x e))
+pub returns : goal.returns
+returns g c =
+    let m = model c.self.inside in
+    rw (← c.self.view_is)
+    (elim c.match-get_mut.branch [
+      | in-Some w ↦
+          let x = w.in-Some.node.now in
+          let e : slice_get m.nodes c.args.n ≡ Some x = slice_get_read m.nodes (length m.nodes) c.args.n x refl w.in-Some.ensures.item.3.0 w.in-Some.ensures.value in
+          rw w.self-inside-is (ap (nodes_of m) (sym (written_some m.nodes c.args.n c.args.cell x e)))
+      | in_default w ↦ rw w.self-inside-is (ap (nodes_of m) (sym (written_past m.nodes c.args.n c.args.cell w.in_default.ensures.item.3)))
+    ])
 
-pub returns-else-n-len : goal.returns-else-n-len
-returns-else-n-len g c =
-    let ns = vec_items c.args.self.now.nodes in
-    ap (nodes_of (model_of c.args.self.now)) (sym (written_past ns c.args.n c.args.cell (omega arith)))
+pub invariant_of-self : goal.invariant_of-self
+invariant_of-self g c =
+    subst IsTabled (sym (returns g c)) (tabled_written c.args.self.now c.args.n c.args.cell (subst IsTabled c.self.view_is c.self.invariant))

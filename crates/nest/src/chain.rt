@@ -61,6 +61,7 @@ impl<'a, K: Copy> Iterator for Keys<'a, K> {
 
     ghost remaining = { item_count ahead };
 
+    // The place is the walk's own, so the loop tests it and no range counts it.
     fn next(&mut self) -> Option<K> {
         while self.turns > 0 && self.node != BACK {
             let here = self.node;

@@ -26,8 +26,7 @@ fn read(registers: Registers, here: Option<usize>, cell: Cell) -> Registers
         here,
         next: cell.next,
         mark: Some(cell.mark),
-        keep: registers.keep,
-        keptnext: registers.keptnext,
+        ..registers
     }
 }
 

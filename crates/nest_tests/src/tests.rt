@@ -37,22 +37,12 @@ fn made<K: Key + Clone>(
 
 // Does each of so many touches of a station say `going`?
 fn goes<K: Key>(nest: &mut Nest<K>, station: usize, touches: usize) -> bool {
-    let mut all = true;
-    for _ in 0..touches {
-        let (told, _) = nest.touch(station);
-        if told != Outcome::Going {
-            all = false;
-        }
-    }
-    all
+    (0..touches).all(|_| nest.touch(station) == (Outcome::Going, None))
 }
 
 // Does the next touch of a station say `counted ready` with the answer?
 fn answers<K: Key>(nest: &mut Nest<K>, station: usize, answer: NestAnswer) -> bool {
-    match nest.touch(station) {
-        (Outcome::CountedReady, Some(told)) => told == answer,
-        _ => false,
-    }
+    nest.touch(station) == (Outcome::CountedReady, Some(answer))
 }
 
 // Does an operation go for so many touches and then have the answer? The station is free again.
@@ -115,14 +105,6 @@ fn a_drop_loses_to_another(rt: HostRuntime) -> Result<(), Fail> {
     Ok(())
 }
 
-// Does the list have the code at the place?
-fn has(list: &[PieceCode], place: usize, code: PieceCode) -> bool {
-    match list.get(place) {
-        Some(listed) => *listed == code,
-        None => false,
-    }
-}
-
 #[test]
 fn keys_are_listed_in_their_order(rt: HostRuntime) -> Result<(), Fail> {
     let first = PieceCode::new('A', 999)?;
@@ -136,8 +118,8 @@ fn keys_are_listed_in_their_order(rt: HostRuntime) -> Result<(), Fail> {
     assert!(rt;
         nest.item(0) == Some(first) && nest.item(1) == Some(second) && nest.item(2).is_none()
     );
-    assert!(rt; !nest.show(&mut short) && has(&short, 0, second));
-    assert!(rt; nest.show(&mut list) && has(&list, 0, first) && has(&list, 1, second));
+    assert!(rt; !nest.show(&mut short) && short == [second]);
+    assert!(rt; nest.show(&mut list) && list == [first, second, second]);
     Ok(())
 }
 
@@ -155,10 +137,8 @@ fn refused(
     };
     let nodes = vec![in heap; Node { key: M, cell }; nodes]?;
     let works = vec![in heap; Work::Free; works]?;
-    match Nest::<SizeLabel>::check(stations, size, &nodes, &works) {
-        Ok(()) => Ok(None),
-        Err(refusal) => Ok(refusal.number()),
-    }
+    let checked = Nest::<SizeLabel>::check(stations, size, &nodes, &works);
+    Ok(checked.err().and_then(|refusal| refusal.number()))
 }
 
 #[test]

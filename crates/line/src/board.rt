@@ -25,8 +25,8 @@ use plain_model::line_op::{LineAnswer, LineOp};
 type Told<E> = (Outcome, Option<LineAnswer<E>>);
 
 // Sets the cell to `new` if it holds `old`. Says whether it set it.
-fn compare_and_set(cell: &mut usize, old: usize, new: usize) -> bool
-    ensures told { result ≡ (cell.old == old) }
+fn compare_and_set<T: PartialEq + Copy>(cell: &mut T, old: T, new: T) -> bool
+    ensures told { result ≡ T.eq cell.old old }
     ensures left { cell.new ≡ (if result then new else cell.old) }
 {
     if *cell == old {
@@ -35,27 +35,6 @@ fn compare_and_set(cell: &mut usize, old: usize, new: usize) -> bool
     } else {
         false
     }
-}
-
-// The same on a next cell, from none to a node.
-fn compare_none_and_set(cell: &mut Option<usize>, new: usize) -> bool
-    ensures told { result ≡ not (is_node cell.old) }
-    ensures left { cell.new ≡ (if result then Some new else cell.old) }
-{
-    if cell.is_none() {
-        *cell = Some(new);
-        true
-    } else {
-        false
-    }
-}
-
-// Writes x at a place of the list.
-fn put<T: Copy>(list: &mut [T], place: usize, x: T)
-    requires { place < length list.old }
-    ensures { list.new ≡ slice_set list.old place x }
-{
-    list[place] = x;
 }
 
 impl<E: Copy> Line<E> {
@@ -112,7 +91,7 @@ impl<E: Copy> Line<E> {
         ensures left { model_of self.new ≡ next_set (model_of self.old) node new (next_of (model_of self.old).nodes node) }
         ensures size { length (model_of self.new).nodes ≡ length (model_of self.old).nodes }
     {
-        compare_none_and_set(&mut self.nodes[node].next, new)
+        compare_and_set(&mut self.nodes[node].next, None, Some(new))
     }
 
     // Takes the next unused node for an element, with next none.
@@ -273,7 +252,7 @@ impl<E: Copy> Line<E> {
                 None => return,
                 Some(next) => at = next,
             }
-            put(list, i, self.element_of(at));
+            list[i] = self.element_of(at);
         }
     }
 }
@@ -302,7 +281,7 @@ impl<E: Copy> Board for Line<E> {
     ghost laws = { line_laws };
 
     fn begin(&mut self, station: usize, op: &LineOp<E>) -> bool {
-        if station < 1 || station > self.seats.len() {
+        if !(1..=self.seats.len()).contains(&station) {
             return false;
         }
         let Seat::Free = self.seat(station) else {
@@ -369,17 +348,15 @@ impl<E: Copy> Board for Line<E> {
     fn station(&self, station: usize) -> Station<LineOp<E>, LineAnswer<E>> {
         match self.seat(station) {
             Seat::Free => Station::Free,
-            Seat::E1(element, _, _, _) => Station::Uncounted(LineOp::Put(element)),
-            Seat::E2(element, _, _, _) => Station::Uncounted(LineOp::Put(element)),
-            Seat::E3(element, _, _, _) => Station::Uncounted(LineOp::Put(element)),
-            Seat::E4(element, _, _) => Station::Uncounted(LineOp::Put(element)),
-            Seat::E5(element, _, _, _) => Station::Uncounted(LineOp::Put(element)),
-            Seat::E6(element, _, _) => Station::Counted(LineOp::Put(element), LineAnswer::Put),
-            Seat::D1(_, _, _) => Station::Uncounted(LineOp::Take),
-            Seat::D2(_, _, _) => Station::Uncounted(LineOp::Take),
-            Seat::D3(_, _, _) => Station::Uncounted(LineOp::Take),
-            Seat::D4(_, _, _) => Station::Uncounted(LineOp::Take),
-            Seat::D5(_, _, _) => Station::Uncounted(LineOp::Take),
+            Seat::E1(element, ..)
+            | Seat::E2(element, ..)
+            | Seat::E3(element, ..)
+            | Seat::E4(element, ..)
+            | Seat::E5(element, ..) => Station::Uncounted(LineOp::Put(element)),
+            Seat::E6(element, ..) => Station::Counted(LineOp::Put(element), LineAnswer::Put),
+            Seat::D1(..) | Seat::D2(..) | Seat::D3(..) | Seat::D4(..) | Seat::D5(..) => {
+                Station::Uncounted(LineOp::Take)
+            }
             Seat::Ready(op, answer) => Station::Ready(op, answer),
         }
     }

@@ -12,23 +12,12 @@ use line_model::node::Node;
 use line_model::seat::Seat;
 
 // Sets every next cell to none.
-fn unlink<E: Copy>(nodes: &mut Vec<Node<E>>)
-    ensures all { nodes.new.items ≡ unlinked nodes.old.items }
-    ensures again { nodes.new.items ≡ unlinked nodes.new.items }
-    ensures len { vec_len nodes.new ≡ vec_len nodes.old }
+fn unlink<E: Copy>(nodes: &mut [Node<E>])
+    ensures all { nodes.new ≡ unlinked nodes.old }
+    ensures again { nodes.new ≡ unlinked nodes.new }
 {
-    for i in 0..nodes.len() {
-        nodes[i].next = None;
-    }
-}
-
-// Frees every seat.
-fn clear<E: Copy>(seats: &mut Vec<Seat<E>>)
-    ensures all { seats.new.items ≡ replicate (vec_len seats.new) Seat.Free }
-    ensures len { vec_len seats.new ≡ vec_len seats.old }
-{
-    for i in 0..seats.len() {
-        seats[i] = Seat::Free;
+    for node in nodes.iter_mut() {
+        node.next = None;
     }
 }
 
@@ -38,15 +27,15 @@ impl<E: Copy> Line<E> {
     pub fn check(
         stations: usize,
         nodes: usize,
-        node_table: &Vec<Node<E>>,
-        station_table: &Vec<Seat<E>>,
+        node_table: &[Node<E>],
+        station_table: &[Seat<E>],
     ) -> Result<(), Refusal>
-        ensures { result ≡ checked stations nodes (vec_len node_table.now) (vec_len station_table.now) }
+        ensures { result ≡ checked stations nodes (length node_table.now) (length station_table.now) }
     {
-        if stations < 1 || stations > 16 {
+        if !(1..=16).contains(&stations) {
             return Err(Refusal::StationCount);
         }
-        if nodes < 1 || nodes > 512 {
+        if !(1..=512).contains(&nodes) {
             return Err(Refusal::LineSize);
         }
         if node_table.len() <= nodes || station_table.len() < stations {
@@ -70,7 +59,7 @@ impl<E: Copy> Line<E> {
         let mut table = node_table;
         let mut seats = station_table;
         unlink(&mut table);
-        clear(&mut seats);
+        seats.fill(Seat::Free);
         Line::over(stations, nodes, table, seats)
     }
 

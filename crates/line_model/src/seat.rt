@@ -5,7 +5,7 @@ use plain_model::line_op::{LineAnswer, LineOp};
 // be unset at a touch is an option there, and one that is always set is not, so that no touch can read a register that
 // is unset. n is a node's next cell as it was read: unset, none or a node. A put leaves first unset. A station that is
 // ready keeps its operation and the answer alone.
-#[derive(Clone, Copy)]
+#[derive(Clone, Copy, PartialEq, Eq, Debug)]
 pub enum Seat<E> {
     Free,
     // a put: its element, its own node, end, n; n is none at E4 and E6

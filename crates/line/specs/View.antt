@@ -1,7 +1,11 @@
 -- The model of a line that the code holds.
 use Rattle.std.specs.Prelude.{vec_items}
 use Rattle.line_model.specs.Line.{LineModel}
-use Rattle.line.specs.declared.Line.{Line}
+use Rattle.line.specs.declared.Line.TheInside.{Inside}
 
-abbrev pub model_of : {E : Type 0} → Line E → LineModel E
-model_of l = record { nodes = vec_items l.nodes; taken = l.taken; head = l.head; tail = l.tail; seats = vec_items l.seats }
+abbrev pub view_of : {E : Type 0} → Inside E → LineModel E
+view_of l = record { nodes = vec_items l.nodes; taken = l.taken; head = l.head; tail = l.tail; seats = vec_items l.seats }
+
+-- a line is its model
+abbrev pub model_of : {E : Type 0} → LineModel E → LineModel E
+model_of m = m

@@ -4,7 +4,6 @@ ghost use Rattle.boards.specs.Board.{Fresh};
 ghost use Rattle.line_model.specs.Meaning.{means};
 ghost use Rattle.line_model.specs.Sound.{Sound};
 ghost use Rattle.line_model.specs.Fresh.{checked, fine, front, fresh, unlinked};
-ghost use Rattle.line.specs.View.{model_of};
 
 use crate::Line;
 use keys::refusal::Refusal;
@@ -52,9 +51,9 @@ impl<E: Copy> Line<E> {
         station_table: Vec<Seat<E>>,
     ) -> Line<E>
         requires { checked stations nodes (vec_len node_table) (vec_len station_table) ≡ fine }
-        ensures made { model_of result ≡ fresh stations nodes node_table.items }
-        ensures sound { Sound (model_of result) }
-        ensures unused { Fresh means [] (model_of result) }
+        ensures made { result ≡ fresh stations nodes node_table.items }
+        ensures sound { Sound result }
+        ensures unused { Fresh means [] result }
     {
         let mut table = node_table;
         let mut seats = station_table;
@@ -73,9 +72,9 @@ impl<E: Copy> Line<E> {
         requires sizes { checked stations nodes (vec_len node_table) (vec_len station_table) ≡ fine }
         requires links { node_table.items ≡ unlinked node_table.items }
         requires free { station_table.items ≡ replicate (vec_len station_table) Seat.Free }
-        ensures made { model_of result ≡ front stations nodes node_table.items }
-        ensures sound { Sound (model_of result) }
-        ensures unused { Fresh means [] (model_of result) }
+        ensures made { result ≡ front stations nodes node_table.items }
+        ensures sound { Sound result }
+        ensures unused { Fresh means [] result }
     {
         let mut table = node_table;
         let mut seats = station_table;

@@ -1,7 +1,7 @@
 -- What the code has in hand at a touch or a begin, turned into the terms of the touch table.
-use Rattle.std.proofs.Common.{◌≡◌, ℕ, ◌≤◌, Bool, true, false, cond, not, eqb, length, Some, None, Option, sym, refl, ap, ◌∙◌, ap₂, true≢false}
+use Rattle.std.proofs.Common.{◌≡◌, ℕ, Bool, true, false, cond, ◌&&◌, leb, not, eqb, length, Some, None, Option, sym, refl, ap, ◌∙◌, ap₂, true≢false}
 use mathlib.Core.Bool.{false≢true}
-use Rattle.std.proofs.lemmas.Bool.{le-leb, and_from, and_left, and_right}
+use Rattle.std.proofs.lemmas.Bool.{and_from, and_left, and_right}
 use Rattle.plain_model.specs.declared.line_op.LineOp.{LineOp}
 use Rattle.plain_model.specs.declared.line_op.LineOp.TheVariants.{Take}
 use Rattle.plain_model.specs.declared.line_op.LineAnswer.{LineAnswer}
@@ -87,9 +87,11 @@ module _ {E : Type 0} where
     pub refused : (o : LineOp E) → can_begin m p o ≡ false → (false ≡ can_begin m p o) × (m ≡ (begun m p o).0)
     refused o e = (sym e, ap (λ (b : Bool). cond b (started m p o) m) (sym e))
 
-    pub can_begin_lem : (o : LineOp E) → 1 ≤ p → p ≤ length m.seats → Free ≡ seat_of m.seats p → has_space m o ≡ true → can_begin m p o ≡ true
-    can_begin_lem o lo hi free space =
-        and_from _ _ (and_from _ _ (le-leb 1 p lo) (le-leb p (length m.seats) hi)) (and_from _ _ (sym (ap is_free_seat free)) space)
+    pub can_begin_lem : (o : LineOp E) → true ≡ (leb 1 p && leb p (length m.seats)) → Free ≡ seat_of m.seats p → has_space m o ≡ true → can_begin m p o ≡ true
+    can_begin_lem o there free space = and_from _ _ (sym there) (and_from _ _ (sym (ap is_free_seat free)) space)
+
+    pub not_there : (o : LineOp E) → false ≡ (leb 1 p && leb p (length m.seats)) → can_begin m p o ≡ false
+    not_there o h = and_left _ _ (sym h)
 
     pub no_space : (o : LineOp E) → has_space m o ≡ false → can_begin m p o ≡ false
     no_space o space = and_right _ _ (and_right (is_free_seat (seat_of m.seats p)) _ space)

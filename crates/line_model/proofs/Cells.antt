@@ -1,7 +1,8 @@
 -- What a write of one node makes of the node table: its bounds, and the compare-and-set of a next cell.
-use Rattle.std.proofs.Common.{◌≡◌, ℕ, zero, suc, Bool, true, false, cond, not, List, [], ◌∷◌, length, set, Some, None, Option, sym, refl, ap, ◌∙◌, inl, inr}
+use Rattle.std.proofs.Common.{◌≡◌, ℕ, zero, suc, Bool, true, false, cond, not, eqb, List, [], ◌∷◌, length, set, Some, None, Option, sym, refl, ap, ◌∙◌, inl, inr}
 use lib.Seq.{set_out}
 use Rattle.std.specs.List.{slice_get}
+use Rattle.std.specs.Option.{option_eq}
 use Rattle.std.proofs.lemmas.Bool.{cases_eq, cases_lt}
 use Rattle.line_model.specs.declared.node.Node.{Node}
 use Rattle.line_model.specs.Nodes.{is_node, next_in, next_of, toward}
@@ -14,6 +15,11 @@ set_back : {X : Type 0} (xs : List X) (i : ℕ) (x : X) → slice_get xs i ≡ S
 set_back [] i x e = refl
 set_back {X = X} (y ∷ xs) zero x e = let z : y ≡ x = cc in ap (λ (u : X). u ∷ xs) (sym z)
 set_back {X = X} (y ∷ xs) (suc i) x e = ap (λ (zs : List X). y ∷ zs) (set_back xs i x e)
+
+-- a cell is told to be none by its equality with none
+pub is_none_eq : (o : Option ℕ) → option_eq eqb o None ≡ not (is_node o)
+is_none_eq None = refl
+is_none_eq (Some b) = refl
 
 -- what a cell holds after a compare-and-set is in bounds
 pub cell_within : (k b : ℕ) (y c : Option ℕ) (t : Bool) → c ≡ cond t (Some b) y → in_next k (Some b) ≡ true → in_next k y ≡ true → in_next k c ≡ true
@@ -31,7 +37,7 @@ module _ {E : Type 0} where
     | inr l ↦ ap (λ (xs : List (Node E)). in_next k (next_of xs a)) (set_out ns i x l) ∙ f a
   ]
 
-  abbrev with_nodes : LineModel E → List (Node E) → LineModel E
+  abbrev pub with_nodes : LineModel E → List (Node E) → LineModel E
   with_nodes m ns = record { nodes = ns; taken = m.taken; head = m.head; tail = m.tail; seats = m.seats }
 
   -- Node a's next cell was x's, and holds c after the compare-and-set that told t.

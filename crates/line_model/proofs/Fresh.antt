@@ -1,7 +1,7 @@
 -- A line that is made is sound, empty and free, over node tables of any content.
 use Rattle.std.proofs.Common.{◌≡◌, ℕ, zero, suc, ◌+◌, ◌-◌, ◌<◌, ◌≤◌, Bool, true, false, cond, ◌&&◌, ltb, leb, ◌≢◌, ◌⊎◌, List, [], ◌∷◌, length, get_or, take, replicate, None, Err, sym, refl, ap, subst, inl, inr, arith}
 use lib.ListN.{length-replicate, length-map}
-use Rattle.std.proofs.lemmas.Bool.{and_parts, leb-true, ltb-true, lt-ltb, cases_eq, cond_both}
+use Rattle.std.proofs.lemmas.Bool.{and_parts, and_left, and_right, and_from, leb-true, ltb-true, lt-ltb, le-ltb, le-leb, lt-leb, cases_eq, cond_both}
 use Rattle.std.proofs.lemmas.List.{length-take-le}
 use Rattle.keys.specs.declared.refusal.Refusal.TheVariants.{StationCount, LineSize, ShortTable}
 use Rattle.plain_model.specs.declared.line_op.LineOp.{LineOp}
@@ -59,6 +59,24 @@ sizes s m nodes seats h = first (leb 1 s && leb s 16) (leb 1 m && leb m 512) (lt
     first false b c _ _ _ e = let z : ◌≡◌ {A = ℕ} 0 1 = cc in absurd (omega arith)
     first true false c _ _ _ e = let z : ◌≡◌ {A = ℕ} 0 1 = cc in absurd (omega arith)
     first true true false _ _ _ e = let z : ◌≡◌ {A = ℕ} 0 1 = cc in absurd (omega arith)
+
+-- what a check says, test by test
+module _ (s m nodes seats : ℕ) where
+  pub station_count : false ≡ (leb 1 s && leb s 16) → Err StationCount ≡ checked s m nodes seats
+  station_count e = rw (← e)
+
+  pub line_size : true ≡ (leb 1 s && leb s 16) → false ≡ (leb 1 m && leb m 512) → Err LineSize ≡ checked s m nodes seats
+  line_size e f = rw (← e, ← f)
+
+  module _ (e : true ≡ (leb 1 s && leb s 16)) (f : true ≡ (leb 1 m && leb m 512)) where
+    by_tables : (b : Bool) → (ltb m nodes && leb s seats) ≡ b → cond b fine (Err ShortTable) ≡ checked s m nodes seats
+    by_tables b h = rw (← e, ← f, h)
+
+    pub short_table : (nodes ≤ m) ⊎ ((m < nodes) × (seats < s)) → Err ShortTable ≡ checked s m nodes seats
+    short_table h = by_tables false (elim h [ inl l ↦ and_left (ltb m nodes) (leb s seats) (le-ltb m nodes l) | inr l ↦ and_right (ltb m nodes) (leb s seats) (lt-leb s seats l.1) ])
+
+    pub none_refused : m < nodes → s ≤ seats → fine ≡ checked s m nodes seats
+    none_refused h l = by_tables true (and_from (ltb m nodes) (leb s seats) (lt-ltb m nodes h) (le-leb s seats l))
 
 -- a table that is unlinked stays as it is
 pub unlinked_again : {E : Type 0} (ns : List (Node E)) → unlinked ns ≡ unlinked (unlinked ns)

@@ -15,3 +15,4 @@ pub mod Laws
 pub mod Registers
 pub mod Listing
 pub mod Acts
+pub mod Bounds

@@ -42,6 +42,18 @@ module _ {E : Type 0} where
   pub after_some : (k : ℕ) (ns : List (Node E)) (a b : ℕ) → next_of ns a ≡ Some b → after (suc k) ns a ≡ prepend (element_of ns b) (after k ns b)
   after_some k ns a b e = rw (e, after)
 
+  pub after_few : (k : ℕ) (ns : List (Node E)) (a : ℕ) → length (after k ns a) ≤ k
+  after_few zero ns a = omega arith
+  after_few (suc k) ns a =
+      let ih : (b : ℕ) → length (after k ns b) ≤ k = λ b. after_few k ns b in
+      by_next (next_of ns a)
+      (λ e. let n = ap length (after_none (suc k) ns a e) in omega arith)
+      (λ b e. let n = ap length (after_some k ns a b e) in let h = few (element_of ns b) (after k ns b) in omega (arith, ih b))
+    where
+      few : (o : Option E) (xs : List E) → length (prepend o xs) ≤ suc (length xs)
+      few None xs = omega arith
+      few (Some e) xs = omega arith
+
   module _ {ns : List (Node E)} {taken head tail : ℕ} {rank : ℕ → ℕ} {last : ℕ} (c : Chain ns taken head tail rank last) where
     pub next_rank : (a b : ℕ) → 1 ≤ rank a → next_of ns a ≡ Some b → rank b ≡ suc (rank a)
     next_rank a b h e = subst (Linked rank last (rank a)) e (c.linked a h)

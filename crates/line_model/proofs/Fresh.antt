@@ -12,6 +12,7 @@ use Rattle.line_model.specs.declared.seat.Seat.TheVariants.{Free}
 use Rattle.line_model.specs.Nodes.{next_of, toward}
 use Rattle.line_model.specs.Seats.{seat_of, station_of, own_of}
 use Rattle.line_model.specs.Line.{LineModel, has_space}
+use Rattle.line_model.specs.Within.{IsWithin, in_next, in_seat}
 use Rattle.line_model.specs.Meaning.{means}
 use Rattle.line_model.specs.Fresh.{fresh, unlinked, checked, fine}
 use Rattle.line_model.specs.Sound.{Sound, Chain, Linked, Seated}
@@ -19,7 +20,7 @@ use Rattle.line_model.proofs.Ranks.{put, put_other}
 use Rattle.line_model.proofs.Walk.{after_none}
 use Rattle.line_model.proofs.Chains.{never}
 
-pub all_same : {A : Type 0} (n i : ℕ) (a : A) → get_or (replicate n a) i a ≡ a
+all_same : {A : Type 0} (n i : ℕ) (a : A) → get_or (replicate n a) i a ≡ a
 all_same zero i a = refl
 all_same (suc n) zero a = refl
 all_same (suc n) (suc i) a = all_same n i a
@@ -93,13 +94,13 @@ module _ {E : Type 0} (s m : ℕ) (ns : List (Node E)) (seats : ℕ) (z : Sizes 
   abbrev F : LineModel E
   F = fresh s m ns
 
-  pub fresh_length : length F.nodes ≡ m + 1
+  fresh_length : length F.nodes ≡ m + 1
   fresh_length = length-take-le (m + 1) (unlinked ns) (simp length-map (omega (arith, z.long_nodes)))
 
-  pub fresh_seat : (p : ℕ) → seat_of F.seats p ≡ Free
+  fresh_seat : (p : ℕ) → seat_of F.seats p ≡ Free
   fresh_seat p = cond_both (leb 1 p) (get_or (replicate s Free) (p - 1) Free) Free (λ x. x ≡ Free) (λ _. all_same s (p - 1) Free) (λ _. refl)
 
-  pub fresh_next : (a : ℕ) → next_of F.nodes a ≡ None
+  fresh_next : (a : ℕ) → next_of F.nodes a ≡ None
   fresh_next a = unlinked_next (m + 1) ns a
 
   fresh_chain : Chain F.nodes 1 0 0 first_rank 1
@@ -124,6 +125,19 @@ module _ {E : Type 0} (s m : ℕ) (ns : List (Node E)) (seats : ℕ) (z : Sizes 
     chain = fresh_chain;
     seated = λ p. subst (Seated F.nodes 1 first_rank (first_rank 0) (first_rank 0)) (sym (fresh_seat p)) tt;
     apart = λ p q a x y. absurd (never (own_of (seat_of F.seats p)) (ap own_of (fresh_seat p)) x);
+  }
+
+  pub fresh_within : IsWithin F
+  fresh_within = record {
+    some_nodes = omega (arith, fresh_length, z.some_nodes);
+    few_nodes = omega (arith, fresh_length, z.few_nodes);
+    some_seats = simp length-replicate z.some_stations;
+    few_seats = simp length-replicate z.few_stations;
+    fits = omega (arith, fresh_length, z.some_nodes);
+    heads = omega (arith, fresh_length, z.some_nodes);
+    tails = omega (arith, fresh_length, z.some_nodes);
+    nexts = λ a. ap (in_next (length F.nodes)) (fresh_next a);
+    sits = λ i. ap (in_seat (length F.nodes)) (all_same s i Free);
   }
 
   pub fresh_fresh : Fresh means [] F

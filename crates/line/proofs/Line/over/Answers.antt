@@ -1,94 +1,53 @@
--- The tables are as long as was checked, and hold what a fresh line holds.
-use Rattle.std.proofs.Common.{◌≡◌, ℕ, ◌+◌, ◌≤◌, true, List, [], length, take, replicate, vec_items, vec_len, sym, ap, ◌∙◌, subst, ap₂, arith, rules}
-use lib.ListN.{length-replicate}
+-- The tables cut to size are those of a fresh line.
+use Rattle.std.proofs.Common.{◌≡◌, ℕ, ◌+◌, ◌≤◌, List, [], length, take, replicate, vec_items, vec_len, sym, ap, ◌∙◌, subst, ap₂, rules}
 use Rattle.std.proofs.lemmas.List.{take-replicate}
 use Rattle.boards.specs.Board.{Fresh}
 use Rattle.line_model.specs.declared.node.Node.{Node}
 use Rattle.line_model.specs.declared.seat.Seat.{Seat}
 use Rattle.line_model.specs.declared.seat.Seat.TheVariants.{Free}
-use Rattle.line_model.specs.Nodes.{next_of}
-use Rattle.line_model.specs.Within.{in_next, in_seat, seat_at}
+use Rattle.line_model.specs.Within.{IsWithin}
 use Rattle.line_model.specs.Line.{LineModel}
 use Rattle.line_model.specs.Meaning.{means}
-use Rattle.line_model.specs.Fresh.{front, unlinked}
+use Rattle.line_model.specs.Fresh.{checked, fine, front, fresh, unlinked}
 use Rattle.line_model.specs.Sound.{Sound}
-use Rattle.line_model.proofs.Fresh.{Sizes, sizes, fresh_length, fresh_next, fresh_sound, fresh_fresh, all_same}
+use Rattle.line_model.proofs.Fresh.{Sizes, sizes, fresh_within, fresh_sound, fresh_fresh}
 use Rattle.line.proofs.Line.over.Goals as goal
+
+abbrev make : (E : Type 0) → List (Node E) → List (Seat E) → LineModel E
+make E ns ss = record { nodes = ns; taken = 1; head = 0; tail = 0; seats = ss }
+
+record Cut {E : Type 0} (s m : ℕ) (table : List (Node E)) (k : ℕ) (line : LineModel E) : Type 0 where
+  sizes : Sizes s m (length table) k
+  made : line ≡ front s m table
+  same : line ≡ fresh s m table
+
+cut : {E : Type 0} (s m n k : ℕ) (table ns : List (Node E)) (seats ss : List (Seat E)) → checked s m n k ≡ fine → n ≡ length table →
+    ns ≡ take (m + 1) table → table ≡ unlinked table → ss ≡ take s seats → seats ≡ replicate k Free → Cut s m table k (make E ns ss)
+cut {E = E} s m n k table ns seats ss h l c u d f =
+    let z = sizes s m n k h in
+    let free = d ∙ ap (take s) f ∙ take-replicate s k Free z.long_seats in
+    let made = ap₂ (make E) c free in
+    record { sizes = subst (λ (i : ℕ). Sizes s m i k) l z; made = made; same = made ∙ ap (front s m) u }
 
 pub overflow_add-nodes : goal.overflow_add-nodes
 overflow_add-nodes g c =
     let z = sizes c.args.stations c.args.nodes (vec_len c.args.node_table) (vec_len c.args.station_table) c.requires.sizes in
     let h : c.args.nodes ≤ 512 = z.few_nodes in search rules
 
--- Of what a fresh line holds each number and index is in bounds.
-record Bounds {E : Type 0} (ns : List (Node E)) (ss : List (Seat E)) : Type 0 where
-  some_nodes : 2 ≤ length ns
-  few_nodes : length ns ≤ 513
-  some_seats : 1 ≤ length ss
-  few_seats : length ss ≤ 16
-  nexts : (a : ℕ) → in_next (length ns) (next_of ns a) ≡ true
-  seats : (i : ℕ) → in_seat (length ns) (seat_at ss i) ≡ true
-
-bounds : {E : Type 0} (s m : ℕ) (table ns : List (Node E)) (ss : List (Seat E)) (k : ℕ) → Sizes s m (length table) k →
-    ns ≡ take (m + 1) (unlinked table) → ss ≡ replicate s Free → Bounds ns ss
-bounds {E = E} s m table ns ss k z n t =
-    let l : length ns ≡ m + 1 = ap length n ∙ fresh_length s m table k z in
-    let r : length ss ≡ s = ap length t ∙ length-replicate s Free in
-    record {
-      some_nodes = omega (arith, z.some_nodes);
-      few_nodes = omega (arith, z.few_nodes);
-      some_seats = omega (arith, z.some_stations);
-      few_seats = omega (arith, z.few_stations);
-      nexts = λ a. ap (λ (xs : List (Node E)). in_next (length ns) (next_of xs a)) n ∙ ap (in_next (length ns)) (fresh_next s m table k z a);
-      seats = λ i. ap (λ (xs : List (Seat E)). in_seat (length ns) (seat_at xs i)) t ∙ ap (in_seat (length ns)) (all_same s i Free);
-    }
-
--- the front of a table of free seats
-free_front : {E : Type 0} (s n : ℕ) (ss table : List (Seat E)) → ss ≡ take s table → table ≡ replicate n Free → s ≤ n → ss ≡ replicate s Free
-free_front {E = E} s n ss table e f l = e ∙ ap (λ (xs : List (Seat E)). take s xs) f ∙ take-replicate s n Free l
-
-abbrev make : (E : Type 0) → List (Node E) → List (Seat E) → LineModel E
-make E ns ss = record { nodes = ns; taken = 1; head = 0; tail = 0; seats = ss }
-
 pub invariant_of-result : goal.invariant_of-result
 invariant_of-result g c =
-    let nt = c.args.node_table in
-    let st = c.args.station_table in
-    let s = c.args.stations in
-    let m = c.args.nodes in
-    let z = sizes s m (vec_len nt) (vec_len st) c.requires.sizes in
+    let nt = c.args.node_table in let st = c.args.station_table in let s = c.args.stations in let m = c.args.nodes in
     let k : vec_len nt ≡ length (vec_items nt) = search rules in
-    let b = bounds s m (vec_items nt) (vec_items c.truncate.new.self) (vec_items c.truncate-2.new.self) (vec_len st)
-    (subst (λ (n : ℕ). Sizes s m n (vec_len st)) k z)
-    (c.truncate.ensures.items ∙ ap (take (m + 1)) c.requires.links)
-    (free_front s (vec_len st) _ (vec_items st) c.truncate-2.ensures.items c.requires.free z.long_seats) in
-    let two = b.some_nodes in
-    record {
-      some_nodes = two;
-      few_nodes = b.few_nodes;
-      some_seats = b.some_seats;
-      few_seats = b.few_seats;
-      fits = omega arith;
-      heads = omega arith;
-      tails = omega arith;
-      nexts = b.nexts;
-      sits = b.seats;
-    }
+    let d = cut s m (vec_len nt) (vec_len st) (vec_items nt) _ (vec_items st) _ c.requires.sizes k c.truncate.ensures.items c.requires.links c.truncate-2.ensures.items c.requires.free in
+    subst IsWithin (sym d.same) (fresh_within s m (vec_items nt) (vec_len st) d.sizes)
 
 pub returns : goal.returns
 returns g c =
-    let nt = c.args.node_table in
-    let st = c.args.station_table in
-    let s = c.args.stations in
-    let m = c.args.nodes in
-    let y = sizes s m (vec_len nt) (vec_len st) c.requires.sizes in
+    let nt = c.args.node_table in let st = c.args.station_table in let s = c.args.stations in let m = c.args.nodes in
     let k : vec_len nt ≡ length (vec_items nt) = search rules in
-    let z = subst (λ (n : ℕ). Sizes s m n (vec_len st)) k y in
-    let made = ap₂ (make g.row.E.Denot) c.truncate.ensures.items
-    (free_front s (vec_len st) _ (vec_items st) c.truncate-2.ensures.items c.requires.free y.long_seats) in
-    let same = made ∙ ap (front s m) c.requires.links in
+    let d = cut s m (vec_len nt) (vec_len st) (vec_items nt) _ (vec_items st) _ c.requires.sizes k c.truncate.ensures.items c.requires.links c.truncate-2.ensures.items c.requires.free in
     record {
-      made = made;
-      sound = subst Sound (sym same) (fresh_sound s m (vec_items nt) (vec_len st) z);
-      unused = subst (Fresh means []) (sym same) (fresh_fresh s m (vec_items nt) (vec_len st) z);
+      made = d.made;
+      sound = subst Sound (sym d.same) (fresh_sound s m (vec_items nt) (vec_len st) d.sizes);
+      unused = subst (Fresh means []) (sym d.same) (fresh_fresh s m (vec_items nt) (vec_len st) d.sizes);
     }

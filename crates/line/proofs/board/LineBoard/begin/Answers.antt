@@ -3,7 +3,7 @@ use Rattle.std.proofs.Common.{◌≡◌, ◌<◌, ◌≤◌, length, None, sym, 
 use Rattle.std.proofs.lemmas.Bool.{lt-ltb, le-ltb}
 use Rattle.line_model.specs.declared.seat.Seat.TheVariants.{E1}
 use Rattle.line_model.specs.Line.{has_space, started, sit}
-use Rattle.line_model.proofs.Acts.{began, refused, can_begin_lem, no_space, not_there, seat_taken}
+use Rattle.line_model.proofs.Acts.{began, refused, can_begin_lem, no_space, not_there}
 use Rattle.line.proofs.Ranges.{contains_is}
 use Rattle.line.proofs.board.LineBoard.begin.Goals as goal
 
@@ -12,12 +12,6 @@ returns-then-not-contains g c =
     let m = c.args.self.now in let p = c.args.station in let o = c.args.op.now in
     let n : c.len.result ≡ length m.seats = omega (arith, c.len.ensures, c.self.inside.seats.ok.0, ap (λ k. length k.seats) c.self.view_is) in
     let d = refused m p o (not_there m p o (sym c.if-not-contains.true ∙ contains_is p c.new.ensures.start (c.new.ensures.end ∙ n) c.new.ensures.exhausted c.contains.ensures.value)) in
-    record { told = d.0; left = d.1 }
-
-pub returns-in_default : goal.returns-in_default
-returns-in_default g c =
-    let m = c.args.self.now in let p = c.args.station in let o = c.args.op.now in
-    let d = refused m p o (seat_taken m p o c.seat.result c.seat.ensures.is c.in_default.not-Free) in
     record { told = d.0; left = d.1 }
 
 pub returns-then-self-len : goal.returns-then-self-len

@@ -56,6 +56,7 @@ impl<E: Copy> Board for Line<E> {
         true
     }
 
+    // Which touch comes next stands in the station table as data, since other stations may be touched in between.
     fn touch(&mut self, station: usize) -> (Outcome, Option<LineAnswer<E>>) {
         match self.seat(station) {
             Seat::Free => (Outcome::Idle, None),

@@ -20,6 +20,8 @@ fn compare_and_set<T: PartialEq + Copy>(cell: &mut T, old: T, new: T) -> bool
     }
 }
 
+// That a node is one of the table is asked by each read and write of a cell, and not tested: a touch makes no test that
+// the invariant spares it. The types of nodes do not say it, since a number cannot name the table that it counts in.
 impl<E: Copy> Line<E> {
     pub(crate) fn next_of(&self, node: usize) -> Option<usize>
         requires { node < length self.now.nodes }

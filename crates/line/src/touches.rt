@@ -1,4 +1,5 @@
-// What a touch does at a seat, one row of the touch table each.
+// What a touch does at a seat, one row of the touch table each. Each takes the registers of its seat one by one, since the
+// match that finds the seat has taken it apart already, and asks that the seat names nodes of the table.
 ghost use Rattle.std.specs.Prelude.{◌≡◌, ◌<◌, true, length, Some, None};
 ghost use Rattle.boards.specs.declared.outcome.Outcome.TheVariants.{Going, CountedReady};
 ghost use Rattle.line_model.specs.Within.{in_seat};
@@ -76,8 +77,7 @@ impl<E: Copy> Line<E> {
         end: usize,
         n: Option<Option<usize>>,
     ) -> Told<E>
-        requires first_in_bounds { first < length self.old.nodes }
-        requires end_in_bounds { end < length self.old.nodes }
+        requires { in_seat {E = E} (length self.old.nodes) (Seat.D3 first end n) ≡ true }
         ensures told { result ≡ (act self.old station (Seat.D3 first end n)).1 }
         ensures left { self.new ≡ (act self.old station (Seat.D3 first end n)).0 }
     {
@@ -91,7 +91,7 @@ impl<E: Copy> Line<E> {
 
     // D5 of a take, which takes effect where Head moves on from first.
     pub(crate) fn touch_d5(&mut self, station: usize, first: usize, end: usize, n: usize) -> Told<E>
-        requires { n < length self.old.nodes }
+        requires { in_seat {E = E} (length self.old.nodes) (Seat.D5 first end n) ≡ true }
         ensures told { result ≡ (act self.old station (Seat.D5 first end n)).1 }
         ensures left { self.new ≡ (act self.old station (Seat.D5 first end n)).0 }
     {

@@ -29,10 +29,10 @@ mod tests {
     fn make(heap: Global, stations: usize, nodes: usize) -> Result<Line<u8>, Fail> {
         let node_table = node_table(heap, 520)?;
         let station_table = station_table(heap, 20)?;
-        match Line::check(stations, nodes, &node_table, &station_table) {
-            Ok(()) => Ok(Line::new(stations, nodes, node_table, station_table)),
-            Err(_) => Err(Fail::new("refused")),
-        }
+        Line::check(stations, nodes, &node_table, &station_table).map_err(|_| Fail::new(
+            "refused",
+        ))?;
+        Ok(Line::new(stations, nodes, node_table, station_table))
     }
 
     // So many touches of the station are told `going`.
@@ -180,10 +180,7 @@ mod tests {
     ) -> Result<Option<Refusal>, Fail> {
         let node_table = node_table(heap, places)?;
         let station_table = station_table(heap, seats)?;
-        match Line::check(stations, nodes, &node_table, &station_table) {
-            Ok(()) => Ok(None),
-            Err(refusal) => Ok(Some(refusal)),
-        }
+        Ok(Line::check(stations, nodes, &node_table, &station_table).err())
     }
 
     // Each size at its edges, and the refusals in their order.

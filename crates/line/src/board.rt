@@ -37,7 +37,7 @@ impl<E: Copy> Board for Line<E> {
     ghost laws = { line_laws };
 
     fn begin(&mut self, station: usize, op: &LineOp<E>) -> bool {
-        if !(1..=self.seats.len()).contains(&station) {
+        if !self.exists(station) {
             return false;
         }
         let Seat::Free = self.seat(station) else {

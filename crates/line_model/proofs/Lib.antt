@@ -14,5 +14,4 @@ pub mod Fresh
 pub mod Laws
 pub mod Registers
 pub mod Listing
-pub mod Acts
 pub mod Bounds

@@ -1,28 +1,20 @@
 -- What a script prints.
 use Rattle.std.specs.Prelude.{◌≡◌, ℕ, ◌≤◌, Bool, cond, List, [], ◌∷◌, length, replicate, Some, None, Ok, Err, codes, Option, Result, nat_lt}
-use Rattle.keys.specs.Elements.{ticket_text, order_text}
-use Rattle.keys.specs.Pieces as pieces
-use Rattle.keys.specs.Sizes as sizes
-use Rattle.keys.specs.declared.cut_ticket.CutTicket.{CutTicket}
-use Rattle.keys.specs.declared.piece_code.PieceCode.{PieceCode}
-use Rattle.keys.specs.declared.plot_order.PlotOrder.{PlotOrder}
 use Rattle.keys.specs.declared.refusal.Refusal.{Refusal}
-use Rattle.keys.specs.declared.size_label.SizeLabel.{SizeLabel}
 use Rattle.plain_model.specs.Printed.{nest_op_text, nest_answer_text, line_op_text, line_answer_text, side_text}
 use Rattle.floor_model.specs.Floor.{Floor, Fits, opened, written_lines}
 use Rattle.floor_model.specs.History.{State}
 use Rattle.floor_model.specs.Law.{Law}
 use Rattle.lex.specs.Faults.{too_long}
 use Rattle.lex.specs.Lines.{lines_of, first_of, after_first}
-use Rattle.lex.specs.Runs.{Lexeme}
 use Rattle.lex.specs.declared.fault.Fault.{Fault}
 use Rattle.lex.specs.declared.fault.Stop.{Stop}
 use Rattle.lex.specs.declared.fault.Stop.TheVariants.{Faulty, NoMemory}
-use Rattle.forms_model.specs.Cutting.{size_at, ticket_at, blank_size, blank_ticket}
+use Rattle.forms_model.specs.Cutting.{cutting_rules}
 use Rattle.forms_model.specs.Openings.{line_opening}
 use Rattle.forms_model.specs.Operations.{operation_at}
-use Rattle.forms_model.specs.Pattern.{piece_at, order_at, blank_piece, blank_order}
-use Rattle.forms_model.specs.Reading.{Parsed}
+use Rattle.forms_model.specs.Pattern.{pattern_rules}
+use Rattle.forms_model.specs.Rules.{Rules}
 use Rattle.forms_model.specs.declared.opening.Kind.{Kind}
 use Rattle.forms_model.specs.declared.opening.Kind.TheVariants as kind
 use Rattle.forms_model.specs.declared.opening.Opening.{Opening}
@@ -33,28 +25,6 @@ use Rattle.script_model.specs.Report.{report_text}
 use Rattle.script_model.specs.Run.{Printed, then, faulted, line_fault, ran}
 use Rattle.script_model.specs.declared.ending.Ending.{Ending}
 use Rattle.script_model.specs.declared.ending.Ending.TheVariants.{NotOpened}
-
--- What the floors of the trades differ in: the order of keys, how keys and elements print and are read, and those that fill unused nodes.
-pub record Rules (K E : Type 0) : Type 0 where
-  pub before : K → K → Bool
-  pub key_text : K → List ℕ
-  pub element_text : E → List ℕ
-  pub key_at : List Lexeme → Parsed (Result K Refusal)
-  pub element_at : List Lexeme → Parsed (Result E Refusal)
-  pub blank_key : K
-  pub blank_element : E
-
-abbrev pub rules : {K E : Type 0} → (K → K → Bool) → (K → List ℕ) → (E → List ℕ) → (List Lexeme → Parsed (Result K Refusal)) →
-    (List Lexeme → Parsed (Result E Refusal)) → K → E → Rules K E
-rules before key_text element_text key_at element_at blank_key blank_element = record {
-  before = before;
-  key_text = key_text;
-  element_text = element_text;
-  key_at = key_at;
-  element_at = element_at;
-  blank_key = blank_key;
-  blank_element = blank_element;
-}
 
 abbrev pub op_text : {K E : Type 0} → (K → List ℕ) → (E → List ℕ) → ShopOp K E → List ℕ
 op_text key element = side_text (nest_op_text key) (line_op_text element)
@@ -76,7 +46,7 @@ module _ {K E : Type 0} (rules : Rules K E) where
   -- what the lines after the first print, on a floor with its ledger
   abbrev pub shop_ran : State (ShopModel K E) (ShopOp K E) (ShopAnswer E) → List ℕ → Printed
   shop_ran s rest =
-      ran (shop_steps E rules.before) (shop_means E rules.before) (operation_at rules.key_at rules.element_at)
+      ran (shop_steps E rules.before) (shop_means E rules.before) (operation_at rules)
       (answer_text rules.element_text) (shop_report rules.before rules.key_text rules.element_text) s 2 (lines_of rest)
 
   -- the floor of an opening, just opened, with its ledger
@@ -104,12 +74,6 @@ module _ {K E : Type 0} (rules : Rules K E) where
   Day o printed = (rest : Printed) × (printed ≡ then (line_of (codes "(opened)")) rest) ×
       LawfulRun (shop_plain E rules.before) (shop_steps E rules.before) (shop_means E rules.before) (answer_text rules.element_text)
       (shop_report rules.before rules.key_text rules.element_text) o.limit (opened_shop o) rest
-
-abbrev pub cutting_rules : Rules SizeLabel CutTicket
-cutting_rules = rules sizes.before sizes.size_text ticket_text size_at ticket_at blank_size blank_ticket
-
-abbrev pub pattern_rules : Rules PieceCode PlotOrder
-pattern_rules = rules pieces.before pieces.piece_text order_text piece_at order_at blank_piece blank_order
 
 abbrev pub by_kind : Kind → Opening → List ℕ → Printed
 by_kind kind.Cutting o rest = begun cutting_rules o rest

@@ -7,4 +7,3 @@ mod replying;
 mod reporting;
 pub mod run;
 mod running;
-mod worked;

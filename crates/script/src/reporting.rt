@@ -25,6 +25,5 @@ pub fn put_report<K: Key + Text, E: Copy + Text, P>(
     put_contents(heap, floor.board().first(), "nest", out)?;
     put_contents(heap, floor.board().second(), "line", out)?;
     let (lines, _) = ledger.split_at(floor.written().min(ledger.len()));
-    put_entries(out, lines)?;
-    Ok(())
+    put_entries(out, lines)
 }

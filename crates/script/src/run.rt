@@ -5,8 +5,8 @@ ghost use Rattle.script.specs.Script.{script_run, RunsADay, UnlessMemory, PartRa
 use crate::running::run_floor;
 use forms::opening::line_opening;
 use forms_model::opening::Kind;
-use lex::fault::{Fault, FaultKind, Stop};
-use lex::line::first_line;
+use lex::fault::{Fault, Stop};
+use lex::line::Lines;
 use script_model::ending::Ending;
 use std::alloc::{AllocError, Global};
 use trades::trade::{Cutting, Pattern};
@@ -27,17 +27,16 @@ fn run_script(heap: Global, script: &[u8], out: &mut String) -> Result<Ending, S
     ensures day { UnlessMemory result (RunsADay script.now (script_run script.now)) }
 {
     if script.len() > MOST_BYTES {
-        return Err(Stop::Faulty(Fault {
-            kind: FaultKind::TooLong,
-            line: 1,
-            byte: 1,
-        }));
+        return Err(Stop::Faulty(Fault::too_long()));
     }
-    let (line, rest) = first_line(script);
-    let opening = line_opening(heap, line, 1)?;
+    let mut lines = Lines::new(script);
+    let Some(first) = lines.next() else {
+        return Err(Stop::Faulty(Fault::no_form(1)));
+    };
+    let opening = line_opening(heap, first)?;
     match opening.kind {
-        Kind::Cutting => run_floor::<Cutting>(heap, opening, rest, out),
-        Kind::Pattern => run_floor::<Pattern>(heap, opening, rest, out),
+        Kind::Cutting => run_floor::<Cutting>(heap, opening, lines, out),
+        Kind::Pattern => run_floor::<Pattern>(heap, opening, lines, out),
     }
 }
 
@@ -47,15 +46,13 @@ pub fn run(heap: Global, script: &[u8]) -> Result<Transcript, AllocError>
     ensures day { IfOk result (λ x. RunsADay script.now (string_bytes x.text, x.ending)) }
 {
     let mut text = String::new(heap);
-    match run_script(heap, script, &mut text) {
-        Ok(ending) => Ok(Transcript { text, ending }),
-        Err(Stop::Faulty(fault)) => match writeln!(text, "{fault}") {
-            Ok(()) => Ok(Transcript {
-                text,
-                ending: Ending::Faulty(fault),
-            }),
-            Err(_) => Err(AllocError),
-        },
-        Err(Stop::NoMemory) => Err(AllocError),
-    }
+    let ending = match run_script(heap, script, &mut text) {
+        Ok(ending) => ending,
+        Err(Stop::Faulty(fault)) => {
+            writeln!(text, "{fault}")?;
+            Ending::Faulty(fault)
+        }
+        Err(Stop::NoMemory) => return Err(AllocError),
+    };
+    Ok(Transcript { text, ending })
 }

@@ -1,29 +1,19 @@
 -- What one turn over the lines of a script keeps: what was printed, and what the rest is to print.
-use Rattle.std.proofs.Common.{◌≡◌, ℕ, ◌+◌, ◌<◌, ◌≤◌, Bool, true, false, cond, eqb, List, [], ◌∷◌, ◌++◌, length, Ok, Err, Result, sym, refl, ap, ◌∙◌, append_assoc, arith}
-use Rattle.std.proofs.lemmas.Bool.Decides.{nat_tests}
+use Rattle.std.proofs.Common.{◌≡◌, ℕ, ◌+◌, true, false, cond, List, [], ◌++◌, Ok, Err, Result, sym, refl, ap, ◌∙◌, append_assoc}
 use Rattle.keys.specs.declared.refusal.Refusal.{Refusal}
 use Rattle.boards.specs.Board.{Steps, Meaning}
-use Rattle.lex.specs.Lines.{lines_of, first_of, after_first}
+use Rattle.lex.specs.Lines.{lines_of}
+use Rattle.lex.specs.NextLine.{ReadsLine}
+use Rattle.lex.specs.declared.line.ScriptLine.{ScriptLine}
+use Rattle.lex.specs.declared.line.Lines.{Lines}
 use Rattle.lex.specs.Runs.{Lexeme}
 use Rattle.lex.specs.declared.fault.Fault.{Fault}
-use Rattle.lex.proofs.Lines.{lines_first}
 use Rattle.forms_model.specs.Reading.{Parsed}
 use Rattle.floor_model.specs.History.{State}
 use Rattle.script_model.specs.Replies.{line_of, reply_text}
 use Rattle.script_model.specs.Run.{Printed, then, faulted, is_closed, line_step, reported, after_close, turned, ran}
 use Rattle.script_model.specs.declared.reply.Reply.{Reply}
 use Rattle.script_model.specs.declared.reply.Reply.TheVariants.{Opened, Started, Touched, Collected, Closed, Refused}
-
--- a test for no bytes, by its result
-pub some_left : (bytes : List ℕ) (none : Bool) → none ≡ eqb (length bytes) 0 → none ≡ false → 0 < length bytes
-some_left bytes none told no_test = grind (arith, nat_tests)
-
-pub none_left : (bytes : List ℕ) (none : Bool) → none ≡ eqb (length bytes) 0 → none ≡ true → length bytes ≡ 0
-none_left bytes none told test = grind (arith, nat_tests)
-
--- one line more is counted, and at least one byte fewer is left
-pub fewer : (number rest next script : ℕ) → next < rest → number + rest ≤ 2 + script → number + 1 + next ≤ 2 + script
-fewer number rest next script less inv = omega arith
 
 -- a reply that is not that the floor is closed
 pub still_open : {Answer : Type 0} (r : Reply Answer) → (r ≡ Closed → ⊥) → is_closed r ≡ false
@@ -47,46 +37,51 @@ module _ {Model Plain Op Answer : Type 0} (steps : Steps Model Op Answer) (means
   ends = after_close steps means operation_at answer_text report
 
   -- no line is left
-  pub ended : (s : State Model Op Answer) (n : ℕ) (rest was : List ℕ) (whole : Printed) → length rest ≡ 0 →
-      then was (goes s n (lines_of rest)) ≡ whole → then was (reported steps means operation_at answer_text report s) ≡ whole
+  pub ended : (s : State Model Op Answer) (n : ℕ) (lines : List (List ℕ)) (was : List ℕ) (whole : Printed) → lines ≡ [] →
+      then was (goes s n lines) ≡ whole → then was (reported steps means operation_at answer_text report s) ≡ whole
   unfolding ran
-  ended s n [] was whole none inv = inv
-  ended s n (b ∷ bs) was whole none inv = absurd (omega arith)
+  ended s n lines was whole none inv = sym (ap (λ ls. then was (goes s n ls)) none) ∙ inv
 
-  module _ (s : State Model Op Answer) (n : ℕ) (rest line next was : List ℕ) (whole : Printed) (some : 0 < length rest)
-      (front : line ≡ first_of rest) (back : next ≡ after_first rest) (inv : then was (goes s n (lines_of rest)) ≡ whole) where
-    -- what the first line and the rest print
-    first_ran : goes s n (lines_of rest) ≡
-        turned steps means operation_at answer_text report (line_step steps means operation_at s n line)
-        (λ t. goes t (n + 1) (lines_of next)) (λ t. ends t (n + 1) (lines_of next))
+  module _ (s : State Model Op Answer) (left : Lines) (line : ScriptLine) (after : Lines) (read : ReadsLine left line after) (was : List ℕ) (whole : Printed)
+      (inv : then was (goes s left.number (lines_of left.rest.now)) ≡ whole) where
+    abbrev onward : State Model Op Answer → Printed
+    onward t = goes t after.number (lines_of after.rest.now)
+
+    abbrev ending : State Model Op Answer → Printed
+    ending t = ends t after.number (lines_of after.rest.now)
+
+    -- what the line that was read and those after it print
+    first_ran : goes s left.number (lines_of left.rest.now) ≡ turned steps means operation_at answer_text report (line_step steps means operation_at s line.number line.bytes.now) onward ending
     unfolding ran
     first_ran =
-        ap (goes s n) (lines_first rest some)
-        ∙ ap (λ l. goes s n (l ∷ lines_of (after_first rest))) (sym front)
-        ∙ ap (λ r. goes s n (line ∷ lines_of r)) (sym back)
+        ap (goes s left.number) read.lines
+        ∙ ap (λ n. turned steps means operation_at answer_text report (line_step steps means operation_at s n line.bytes.now)
+        (λ t. goes t (left.number + 1) (lines_of after.rest.now)) (λ t. ends t (left.number + 1) (lines_of after.rest.now))) (sym read.number)
+        ∙ ap (λ n. turned steps means operation_at answer_text report (line_step steps means operation_at s line.number line.bytes.now)
+        (λ t. goes t n (lines_of after.rest.now)) (λ t. ends t n (lines_of after.rest.now))) (sym read.next)
 
     module _ (t : State Model Op Answer) (reply : Reply Answer) (now : List ℕ)
-        (told : line_step steps means operation_at s n line ≡ Ok (t, reply)) (printed : now ≡ was ++ line_of (reply_text answer_text reply)) where
-      replied : then now (cond (is_closed reply) (ends t (n + 1) (lines_of next)) (goes t (n + 1) (lines_of next))) ≡ whole
+        (told : line_step steps means operation_at s line.number line.bytes.now ≡ Ok (t, reply)) (printed : now ≡ was ++ line_of (reply_text answer_text reply)) where
+      replied : then now (cond (is_closed reply) (ending t) (onward t)) ≡ whole
       replied =
-          ap (λ l. then l (cond (is_closed reply) (ends t (n + 1) (lines_of next)) (goes t (n + 1) (lines_of next)))) printed
-          ∙ then_then was (line_of (reply_text answer_text reply)) (cond (is_closed reply) (ends t (n + 1) (lines_of next)) (goes t (n + 1) (lines_of next)))
-          ∙ ap (λ r. then was (turned steps means operation_at answer_text report r (λ u. goes u (n + 1) (lines_of next)) (λ u. ends u (n + 1) (lines_of next)))) (sym told)
+          ap (λ l. then l (cond (is_closed reply) (ending t) (onward t))) printed
+          ∙ then_then was (line_of (reply_text answer_text reply)) (cond (is_closed reply) (ending t) (onward t))
+          ∙ ap (λ r. then was (turned steps means operation_at answer_text report r onward ending)) (sym told)
           ∙ ap (then was) (sym first_ran)
           ∙ inv
 
       -- the floor stays open
-      pub went_on : is_closed reply ≡ false → then now (goes t (n + 1) (lines_of next)) ≡ whole
-      went_on still = ap (λ b. then now (cond b (ends t (n + 1) (lines_of next)) (goes t (n + 1) (lines_of next)))) (sym still) ∙ replied
+      pub went_on : is_closed reply ≡ false → then now (onward t) ≡ whole
+      went_on still = ap (λ b. then now (cond b (ending t) (onward t))) (sym still) ∙ replied
 
       -- the floor is closed
-      pub closed : is_closed reply ≡ true → then now (ends t (n + 1) (lines_of next)) ≡ whole
-      closed done = ap (λ b. then now (cond b (ends t (n + 1) (lines_of next)) (goes t (n + 1) (lines_of next)))) (sym done) ∙ replied
+      pub closed : is_closed reply ≡ true → then now (ending t) ≡ whole
+      closed done = ap (λ b. then now (cond b (ending t) (onward t))) (sym done) ∙ replied
 
     -- the line is at fault
-    pub broken : (fault : Fault) (now : List ℕ) → line_step steps means operation_at s n line ≡ Err fault → now ≡ was → then now (faulted fault) ≡ whole
+    pub broken : (fault : Fault) (now : List ℕ) → line_step steps means operation_at s line.number line.bytes.now ≡ Err fault → now ≡ was → then now (faulted fault) ≡ whole
     broken fault now told same =
         ap (λ l. then l (faulted fault)) same
-        ∙ ap (λ r. then was (turned steps means operation_at answer_text report r (λ u. goes u (n + 1) (lines_of next)) (λ u. ends u (n + 1) (lines_of next)))) (sym told)
+        ∙ ap (λ r. then was (turned steps means operation_at answer_text report r onward ending)) (sym told)
         ∙ ap (then was) (sym first_ran)
         ∙ inv

@@ -50,6 +50,11 @@ module _ {Answer : Type 0} where
   close_reply None = Closed
   close_reply (Some reason) = Refused reason
 
+  -- the reply to a call that was taken, or that it was sent back
+  abbrev pub reply_or_refusal : Result (Reply Answer) Refusal → Reply Answer
+  reply_or_refusal (Ok reply) = reply
+  reply_or_refusal (Err reason) = Refused reason
+
   abbrev pub is_closed : Reply Answer → Bool
   is_closed Opened = false
   is_closed Started = false

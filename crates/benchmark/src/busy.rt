@@ -1,5 +1,5 @@
 // Boards whose stations are all at work: a nest, a line, and a pair of the two.
-use crate::host::Host;
+use crate::host::work_on_each;
 use crate::making::{LARGEST, make_line, make_nest, make_pair};
 use crate::requests::{LineRequests, NestRequests, ShopRequests};
 use crate::run::Run;
@@ -13,9 +13,11 @@ pub fn busy_nest(
     touches: usize,
 ) -> anyhow::Result<Run> {
     let mut nests = Vec::new(rt.alloc());
-    nests.try_resize_with(number, || make_nest(rt.alloc(), sizes))?;
+    for _ in 0..number {
+        nests.push(make_nest(rt.alloc(), sizes)?)?;
+    }
     let keys = sizes.nest_nodes as u64;
-    Host::new(NestRequests { keys }).work_on_each(rt, &mut nests, touches)
+    work_on_each(rt, &mut nests, NestRequests { keys }, touches)
 }
 
 // Lines of 512 nodes with 4 stations.
@@ -26,7 +28,7 @@ pub fn busy_line(rt: &HostRuntime) -> anyhow::Result<Run> {
     };
     let mut lines = Vec::new(rt.alloc());
     lines.try_resize_with(20, || make_line(rt.alloc(), sizes))?;
-    Host::new(LineRequests).work_on_each(rt, &mut lines, 5000)
+    work_on_each(rt, &mut lines, LineRequests, 5000)
 }
 
 // Pairs of a nest of 64 nodes and a line of 512 with 4 stations.
@@ -41,5 +43,5 @@ pub fn busy_pair(rt: &HostRuntime) -> anyhow::Result<Run> {
     let requests = ShopRequests {
         nest: NestRequests { keys: 64 },
     };
-    Host::new(requests).work_on_each(rt, &mut pairs, 3072)
+    work_on_each(rt, &mut pairs, requests, 3072)
 }

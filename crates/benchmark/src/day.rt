@@ -1,6 +1,7 @@
 // Days on the floor of a shop, until the ledger is full.
 use crate::checksum::{Checksum, Coded};
-use crate::host::{Host, add_contents, is_ready};
+use crate::generator::Generator;
+use crate::host::{add_contents, is_ready};
 use crate::making::LARGEST;
 use crate::requests::{
     FindRequests, NestRequests, Requests, SMALLEST, SMALLEST_TICKET, ShopOp, ShopRequests,
@@ -24,77 +25,89 @@ fn open_shops(rt: &HostRuntime, number: usize, stations: usize) -> anyhow::Resul
         ..LARGEST
     };
     let mut shops = Vec::new(rt.alloc());
-    shops.try_resize_with(number, || {
-        open_shop(rt.alloc(), sizes, SMALLEST, SMALLEST_TICKET)
-    })?;
+    for _ in 0..number {
+        shops.push(open_shop(rt.alloc(), sizes, SMALLEST, SMALLEST_TICKET)?)?;
+    }
     Ok(shops)
 }
 
-impl<R: Requests<Op = ShopOp> + Drop> Host<R> {
-    // Starts the next operation at a station.
-    fn start(&mut self, shop: &mut Shop, station: usize) -> Result<(), Refusal> {
-        let op = self.requests.next(&mut self.numbers);
-        match shop.floor.start(station, &op) {
-            Err(Refusal::NoSpace) => shop.floor.start(station, &self.requests.instead(&op)),
-            started => started,
-        }
-    }
+// Requests, numbers and checksum are apart here: as methods of a host that has all three, a whole day took 59 to 91
+// nanoseconds a touch in place of 55.
 
-    // Touches a station.
-    fn touch_on(&mut self, shop: &mut Shop, station: usize) -> Result<Outcome, Refusal> {
-        let (outcome, answer) = shop.floor.touch(station, &mut shop.ledger)?;
-        self.sum.add_touch(&outcome, &answer);
-        Ok(outcome)
+// Starts the next operation at a station. Says whether there was still a line for it.
+fn start<R: Requests<Op = ShopOp>>(
+    shop: &mut Shop,
+    station: usize,
+    requests: &R,
+    numbers: &mut Generator,
+) -> bool {
+    let op = requests.next(numbers);
+    match shop.floor.start(station, &op) {
+        Ok(()) => true,
+        Err(Refusal::NoSpace) => shop.floor.start(station, &requests.instead(&op)).is_ok(),
+        Err(_) => false,
     }
+}
 
-    // Collects the answer of a station and adds it to the checksum.
-    fn collect(&mut self, shop: &mut Shop, station: usize) {
-        if let Ok(answer) = shop.floor.collect(station) {
-            self.sum.add(answer.code());
-        }
+// Collects the answer of a station and adds it to the checksum.
+fn collect(shop: &mut Shop, station: usize, sum: &mut Checksum) {
+    if let Ok(answer) = shop.floor.collect(station) {
+        sum.add(answer.code());
     }
+}
 
-    // A day: stations drawn one after another are touched, and each starts again until the ledger is full. Tells how
-    // many touches were taken.
-    fn day(&mut self, shop: &mut Shop) -> usize {
-        let stations = shop.floor.board().stations();
-        for station in 1..=stations {
-            let _ = self.start(shop, station);
+// Touches a station, and tells what the touch did.
+fn touch(shop: &mut Shop, station: usize, sum: &mut Checksum) -> Option<Outcome> {
+    match shop.floor.touch(station, &mut shop.ledger) {
+        Ok((outcome, answer)) => {
+            sum.add_touch(&outcome, &answer);
+            Some(outcome)
         }
-        let mut working = stations;
-        let mut touches: usize = 0;
-        // no day takes more calls
-        for _ in 0..10_000_000 {
-            if working == 0 {
-                break;
-            }
-            let station = self.numbers.station(stations);
-            if let Ok(outcome) = self.touch_on(shop, station) {
-                touches = touches.saturating_add(1);
-                if is_ready(&outcome) {
-                    self.collect(shop, station);
-                    if self.start(shop, station).is_err() {
-                        working = working.saturating_sub(1);
-                    }
+        Err(_) => None,
+    }
+}
+
+// Starts an operation at every station. Tells how many stations there are.
+fn start_all<R: Requests<Op = ShopOp>>(
+    shop: &mut Shop,
+    requests: &R,
+    numbers: &mut Generator,
+) -> usize {
+    let stations = shop.floor.board().stations();
+    for station in 1..=stations {
+        let _ = start(shop, station, requests, numbers);
+    }
+    stations
+}
+
+// A day: stations drawn one after another are touched, and each starts again until the ledger is full. Tells how many
+// touches were taken.
+fn day<R: Requests<Op = ShopOp>>(
+    shop: &mut Shop,
+    requests: &R,
+    numbers: &mut Generator,
+    sum: &mut Checksum,
+) -> usize {
+    let stations = start_all(shop, requests, numbers);
+    let mut working = stations;
+    let mut touches: usize = 0;
+    // no day takes more calls
+    for _ in 0..10_000_000 {
+        if working == 0 {
+            break;
+        }
+        let station = numbers.station(stations);
+        if let Some(outcome) = touch(shop, station, sum) {
+            touches = touches.saturating_add(1);
+            if is_ready(&outcome) {
+                collect(shop, station, sum);
+                if !start(shop, station, requests, numbers) {
+                    working = working.saturating_sub(1);
                 }
             }
         }
-        touches
     }
-
-    // A day in each of the shops. The time is that of the touches, with starts and collects.
-    fn days(mut self, rt: &HostRuntime, shops: &mut Vec<Shop>) -> anyhow::Result<Run> {
-        let mut touches: usize = 0;
-        let start = Instant::now(rt)?;
-        for shop in shops.iter_mut() {
-            touches = touches.saturating_add(self.day(shop));
-        }
-        let time = start.elapsed(rt)?;
-        for shop in shops.iter() {
-            add_shop(shop, &mut self.sum)?;
-        }
-        Ok(Run::new(touches, self.sum, time))
-    }
+    touches
 }
 
 // Adds the ledger and what the board holds to the checksum.
@@ -109,17 +122,37 @@ fn add_shop(shop: &Shop, sum: &mut Checksum) -> Result<(), Refusal> {
     Ok(())
 }
 
+// A day in each of the shops. The time is that of the touches, with starts and collects.
+fn days<R: Requests<Op = ShopOp>>(
+    rt: &HostRuntime,
+    shops: &mut Vec<Shop>,
+    requests: &R,
+) -> anyhow::Result<Run> {
+    let mut numbers = Generator::new();
+    let mut sum = Checksum::new();
+    let mut touches: usize = 0;
+    let start = Instant::now(rt)?;
+    for shop in shops.iter_mut() {
+        touches = touches.saturating_add(day(shop, requests, &mut numbers, &mut sum));
+    }
+    let time = start.elapsed(rt)?;
+    for shop in shops.iter() {
+        add_shop(shop, &mut sum)?;
+    }
+    Ok(Run::new(touches, sum, time))
+}
+
 // Days of 4 stations with every kind of operation.
 pub fn whole_day(rt: &HostRuntime) -> anyhow::Result<Run> {
     let mut shops = open_shops(rt, 4, 4)?;
     let requests = ShopRequests {
         nest: NestRequests { keys: 512 },
     };
-    Host::new(requests).days(rt, &mut shops)
+    days(rt, &mut shops, &requests)
 }
 
 // Days of 16 stations with finds in an empty nest alone, so that a start and a collect come with each touch.
 pub fn short_operations(rt: &HostRuntime) -> anyhow::Result<Run> {
     let mut shops = open_shops(rt, 16, 16)?;
-    Host::new(FindRequests).days(rt, &mut shops)
+    days(rt, &mut shops, &FindRequests)
 }

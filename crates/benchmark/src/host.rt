@@ -25,6 +25,7 @@ impl<R: Requests + Drop> Host<R> {
     }
 
     // Hands the next operation to a station.
+    #[inline]
     fn begin<B: Board<Op = R::Op>>(&mut self, board: &mut B, station: usize) {
         let op = self.requests.next(&mut self.numbers);
         if board.space(&op) {
@@ -35,6 +36,7 @@ impl<R: Requests + Drop> Host<R> {
     }
 
     // One touch of one station. A station that is ready gets its next operation at once.
+    #[inline]
     fn touch<B: Board<Op = R::Op>>(&mut self, board: &mut B, station: usize)
     where
         B::Answer: Coded,
@@ -48,6 +50,7 @@ impl<R: Requests + Drop> Host<R> {
     }
 
     // So many touches of stations drawn one after another.
+    #[inline]
     fn work<B: Board<Op = R::Op>>(&mut self, board: &mut B, touches: usize)
     where
         B::Answer: Coded,
@@ -61,28 +64,29 @@ impl<R: Requests + Drop> Host<R> {
             self.touch(board, station);
         }
     }
+}
 
-    // So many touches of each of the boards. The time is that of the touches, with begins and releases.
-    pub fn work_on_each<B: Board<Op = R::Op>>(
-        mut self,
-        rt: &HostRuntime,
-        boards: &mut Vec<B>,
-        touches: usize,
-    ) -> anyhow::Result<Run>
-    where
-        B::Answer: Coded,
-        B::Item: Coded,
-    {
-        let start = Instant::now(rt)?;
-        for board in boards.iter_mut() {
-            self.work(board, touches);
-        }
-        let time = start.elapsed(rt)?;
-        for board in boards.iter() {
-            add_contents(board, &mut self.sum);
-        }
-        Ok(Run::new(touches.saturating_mul(boards.len()), self.sum, time))
+// So many touches of each of the boards. The time is that of the touches, with begins and releases.
+pub fn work_on_each<B: Board, R: Requests<Op = B::Op> + Drop>(
+    rt: &HostRuntime,
+    boards: &mut Vec<B>,
+    requests: R,
+    touches: usize,
+) -> anyhow::Result<Run>
+where
+    B::Answer: Coded,
+    B::Item: Coded,
+{
+    let mut host = Host::new(requests);
+    let start = Instant::now(rt)?;
+    for board in boards.iter_mut() {
+        host.work(board, touches);
     }
+    let time = start.elapsed(rt)?;
+    for board in boards.iter() {
+        add_contents(board, &mut host.sum);
+    }
+    Ok(Run::new(touches.saturating_mul(boards.len()), host.sum, time))
 }
 
 // Can the answer be collected?

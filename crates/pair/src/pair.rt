@@ -13,6 +13,7 @@ use plain_model::side::Side;
 
 // Two boards side by side, each operation going to its side. A station of the pair is the station of that number at
 // both sides, and is at work at one of them at most: at the first unless it is free there.
+// The bounds stand on the impls: on the struct they would be asked of whoever names the type.
 // What is of one side is put in the pair by closures: of a constructor named alone, as in `map(Side::First)`, the check
 // does not take that its result names the other side's type.
 #[derive(Drop)]

@@ -5,15 +5,20 @@ ghost use Rattle.script_model.specs.Report.{list_text};
 use crate::lists::put_list;
 use boards::board::Board;
 use keys::text::Text;
+use shop::tables::filled;
 use std::alloc::{AllocError, Global};
 
 // The items of a board's contents, in their order.
 fn listing<B: Board>(heap: Global, board: &B) -> Result<Vec<B::Item>, AllocError>
     ensures { IfOk result (λ v. v.items ≡ B.plain.listed (B.means.contents (B.model board.now))) }
 {
-    let mut items = Vec::new(heap);
-    while let Some(item) = board.item(items.len()) {
-        items.push(item)?;
+    let Some(first) = board.item(0) else {
+        return Ok(Vec::new(heap));
+    };
+    let mut items = filled(heap, first, board.items())?;
+    if !board.show(&mut items) {
+        // there are more items than a list can have, so there is no room for one more
+        items.push(first)?;
     }
     Ok(items)
 }

@@ -4,4 +4,4 @@
 pub mod making;
 pub mod opening;
 pub mod sizes;
-mod tables;
+pub mod tables;

@@ -1,30 +1,40 @@
--- One item more is a longer part of the contents, and past the last item the part is the whole.
-use Rattle.std.proofs.Common.{◌≡◌, ℕ, ◌+◌, ◌<◌, ◌≤◌, ◌⊎◌, List, [], ◌∷◌, ◌++◌, length, get_or, take, Some, None, vec_items, sym, ◌∙◌, ap, inl, inr}
-use Rattle.std.specs.List.{slice_get}
-use Rattle.std.proofs.lemmas.List.{take_more, take_all}
-use Rattle.std.proofs.lemmas.Option.{slice_get_within, get_or_from_slice_get, slice_get_cases}
+-- The list is as long as the contents, so the contents are all that it holds once they are written over it.
+use Rattle.std.proofs.Common.{◌≡◌, ℕ, ◌-◌, ◌^◌, length, min, leb, true, false, vec_items, sym, ◌∙◌, ap, arith}
+use Rattle.std.proofs.lemmas.Bool.Decides.{nat_tests}
+use Rattle.script_model.proofs.Shown.{no_first, shown_all}
+use Rattle.report.proofs.contents.listing.Goals.{then-not-show+in_ok-push, else-not-show}
 use Rattle.report.proofs.contents.listing.Goals as goal
 
-module _ {X : Type 0} (xs ys : List X) (n k : ℕ) (at : k ≡ n) (part : ys ≡ take n xs) where
-  part_more : (zs : List X) (m : ℕ) (x : X) → Some x ≡ slice_get xs k → zs ≡ ys ++ x ∷ [] → m ≡ n + 1 → zs ≡ take m xs
-  part_more zs m x is more next =
-      let here : slice_get xs n ≡ Some x = ap (λ i. slice_get xs i) (sym at) ∙ sym is in
-      let one : get_or xs n x ≡ x = get_or_from_slice_get xs n x x here in
-      let longer : take (n + 1) xs ≡ take n xs ++ get_or xs n x ∷ [] = take_more xs n x (slice_get_within xs n x here) in
-      cc
+-- what was shown was counted
+counted_shown : (xs given count : ℕ) → count ≡ min xs (2 ^ 64 - 1) → given ≡ count → true ≡ leb xs given → xs ≡ count
+counted_shown xs given count told lent shown = grind (arith, nat_tests)
 
-  part_all : None ≡ slice_get xs k → ys ≡ xs
-  part_all none = by (slice_get_cases xs n).1
-    where
-      by : ((x : X) × (n < length xs) × (slice_get xs n ≡ Some x) × (get_or xs n x ≡ x)) ⊎ ((length xs ≤ n) × (slice_get xs n ≡ None)) → ys ≡ xs
-      by (inl some) = let here : slice_get xs n ≡ Some some.0 = some.2 in cc
-      by (inr past) = part ∙ take_all n xs past.0
+-- what was not shown is longer than any list
+not_counted : (xs given count : ℕ) → count ≡ min xs (2 ^ 64 - 1) → given ≡ count → false ≡ leb xs given → count ≡ 2 ^ 64 - 1
+not_counted xs given count told lent shown = grind (arith, nat_tests)
 
-pub loop-item-preserved : goal.loop-item-preserved
-loop-item-preserved g c =
-    part_more (g.B.Board.plain.listed (g.B.Board.means.contents (g.B.Board.model c.args.board.now))) (vec_items c.loop-item.items) _ _ c.len.ensures c.loop-item.invariant
-    _ _ c.in-Some.item c.in-Some.ensures c.in_ok-push.ensures.items c.in_ok-push.ensures.len
+pub returns-in_default : goal.returns-in_default
+returns-in_default g c = c.new.ensures.items ∙ sym (no_first _ c.in_default.ensures)
 
 pub returns : goal.returns
 returns g c =
-    part_all (g.B.Board.plain.listed (g.B.Board.means.contents (g.B.Board.model c.args.board.now))) (vec_items c.loop-item.items) _ _ c.len.ensures c.loop-item.invariant c.in_default.ensures
+    let b = g.B.Board in
+    let xs = b.plain.listed (b.means.contents (b.model c.args.board.now)) in
+    let items = c.in_ok-items.items in
+    let lent : length c.deref_mut.result.now ≡ c.items.result = c.deref_mut.ensures.len ∙ c.in_ok-items.ensures.len in
+    elim c.if-not-show.branch [
+      | then-not-show+in_ok-push w ↦
+          absurd (
+          let full = not_counted (length xs) (length c.deref_mut.result.now) c.items.result c.items.ensures lent w.if-not-show.ensures.told in
+          let more = w.in_ok-push.ensures.len in
+          let long = c.in_ok-items.ensures.len in
+          let small = w.push.new.self.small in
+          let same = w.push.new.self.ok.0 in
+          omega arith)
+      | else-not-show w ↦
+          ap vec_items w.items-is
+          ∙ shown_all xs (vec_items items) c.deref_mut.result.now c.show.new.list items.items
+          c.items.result items.len c.in-Some.first true
+          (counted_shown (length xs) (length c.deref_mut.result.now) c.items.result c.items.ensures lent w.if-not-show.ensures.told)
+          c.in_ok-items.ensures.items c.deref_mut.ensures.value w.if-not-show.ensures.told w.if-not-show.ensures.left items.ok.0
+    ]

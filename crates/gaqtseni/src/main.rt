@@ -149,10 +149,7 @@ fn close<K: Key + Text, E: Copy + Text>(rt: &HostRuntime, shop: Shop<K, E>) -> a
     let Shop { floor, ledger } = shop;
     let closed = floor.close();
     for line in closed.lines(&ledger)? {
-        println!(rt;
-            "(entry {} {} {} {})",
-            line.station, line.turn, line.operation, line.answer
-        )?;
+        println!(rt; "{line}")?;
     }
     Ok(())
 }

@@ -91,7 +91,7 @@ fn day<R: Requests<Op = ShopOp>>(
     let stations = start_all(shop, requests, numbers);
     let mut working = stations;
     let mut touches: usize = 0;
-    // no day takes more calls
+    // two things are counted at once, in a day whose end no range knows; no day takes more calls
     for _ in 0..10_000_000 {
         if working == 0 {
             break;

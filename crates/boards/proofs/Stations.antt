@@ -1,8 +1,8 @@
--- Which stations exist, which are free where all are, and what a station is that is mapped.
+-- Which stations exist, and which are free where all are.
 use Rattle.std.proofs.Common.{◌≡◌, ℕ, zero, suc, ◌+◌, ◌-◌, ◌≤◌, Bool, true, cond, leb, refl, sym, ap, ◌∙◌, ⊎_elim, arith}
 use Rattle.std.proofs.lemmas.Bool.{and_parts, and_from, cases_Bool, cases_eq, leb-true, false≢true}
 use Rattle.plain_model.specs.Machine.{Machine}
-use Rattle.boards.specs.Board.{Steps, Meaning, is_free, is_uncounted, mapped, Maps, exists, free_to, all_free, uncounted_to}
+use Rattle.boards.specs.Board.{Steps, Meaning, is_free, is_uncounted, exists, free_to, all_free, uncounted_to}
 use Rattle.boards.specs.Laws.{Laws}
 use Rattle.boards.specs.declared.station.Station.{Station}
 use Rattle.boards.specs.declared.station.Station.TheVariants.{Free, Uncounted, Counted, Ready}
@@ -12,15 +12,6 @@ free_is Free e = refl
 free_is (Uncounted o) e = absurd (false≢true e)
 free_is (Counted o a) e = absurd (false≢true e)
 free_is (Ready o a) e = absurd (false≢true e)
-
--- a station that is mapped by functions
-pub mapped_is : {Op Answer Op' Answer' : Type 0} {F : Op → Op' → Type 0} {G : Answer → Answer' → Type 0} (f : Op → Op') (g : Answer → Answer') →
-    ((o : Op) (o' : Op') → F o o' → o' ≡ f o) → ((a : Answer) (a' : Answer') → G a a' → a' ≡ g a) →
-    (x : Station Op Answer) (y : Station Op' Answer') → Maps F G x y → y ≡ mapped f g x
-mapped_is f g is_f is_g Free y m = m
-mapped_is f g is_f is_g (Uncounted o) y m = m.2 ∙ ap Uncounted (is_f o m.0 m.1)
-mapped_is f g is_f is_g (Counted o a) y m = m.4 ∙ ap (λ x. Counted x m.1) (is_f o m.0 m.2) ∙ ap (Counted (f o)) (is_g a m.1 m.3)
-mapped_is f g is_f is_g (Ready o a) y m = m.4 ∙ ap (λ x. Ready x m.1) (is_f o m.0 m.2) ∙ ap (Ready (f o)) (is_g a m.1 m.3)
 
 module _ {Model Plain Op Answer : Type 0} (means : Meaning Model Plain Op Answer) (m : Model) where
   -- a station that exists is one of those numbered from 1

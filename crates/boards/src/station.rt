@@ -14,12 +14,14 @@ pub enum Station<O, R> {
 }
 
 impl<O, R> Station<O, R> {
+    #[inline(always)]
     pub fn is_free(&self) -> bool
         ensures { result ≡ is_free self.now }
     {
         matches!(self, Station::Free)
     }
 
+    #[inline(always)]
     pub fn is_uncounted(&self) -> bool
         ensures { result ≡ is_uncounted self.now }
     {
@@ -27,6 +29,7 @@ impl<O, R> Station<O, R> {
     }
 
     // A station in the same state, with what the calls make of the operation and of the answer.
+    #[inline(always)]
     pub fn map<P, S, F: FnOnce(O) -> P, G: FnOnce(R) -> S>(
         self,
         operation: F,

@@ -33,7 +33,8 @@ enum Fate {
     SetAside,
 }
 
-// Touches the station, if it waits. Says whether it still waits.
+// Touches the station, if it waits. Says whether it still waits. A station that is ready is no error here, so this is a
+// match and no `?`.
 fn advance<K: Key, E: Copy>(shop: &mut Shop<K, E>, station: usize) -> Result<bool, Refusal> {
     match shop.floor.touch(station, &mut shop.ledger) {
         Ok((outcome, _)) => Ok(!matches!(outcome, Outcome::CountedReady | Outcome::Ready)),

@@ -5,7 +5,3 @@ use Rattle.line.specs.declared.Line.TheInside.{Inside}
 
 abbrev pub view_of : {E : Type 0} → Inside E → LineModel E
 view_of l = record { nodes = vec_items l.nodes; taken = l.taken; head = l.head; tail = l.tail; seats = vec_items l.seats }
-
--- a line is its model
-abbrev pub model_of : {E : Type 0} → LineModel E → LineModel E
-model_of m = m

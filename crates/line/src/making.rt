@@ -22,7 +22,8 @@ fn unlink<E: Copy>(nodes: &mut [Node<E>])
 
 impl<E: Copy> Line<E> {
     // Tells whether a line of so many stations and nodes can be made over the two tables: 1 to 16 stations, 1 to 512
-    // nodes, a node table with one place more for the dummy, and a station table with a place for each station.
+    // nodes, a node table with one place more for the dummy, and a station table with a place for each station. Numbers
+    // and tables are handed in one by one, by a rule of the boards: `check` borrows the tables that `new` then takes.
     pub fn check(
         stations: usize,
         nodes: usize,

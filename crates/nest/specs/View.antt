@@ -14,7 +14,3 @@ pub record IsTabled {K : Type 0} (m : NestModel K) : Type 0 where
   pub few_nodes : m.size ≤ 512
   pub tabled : length m.nodes ≡ m.size + 2
   pub enough : m.taken ≤ m.size
-
--- a clause sees a nest as its model
-abbrev pub model_of : {K : Type 0} → NestModel K → NestModel K
-model_of m = m

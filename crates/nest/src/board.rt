@@ -52,19 +52,34 @@ impl<K: Key> Board for Nest<K> {
     fn touch(&mut self, station: usize) -> (Outcome, Option<NestAnswer>) {
         match self.work(station) {
             Work::Free | Work::Ready(_, _, _) => (Outcome::Idle, None),
-            Work::Waiting(pending) => {
-                let registers = self.readings(pending.phase, pending.registers);
-                let read = Pending {
+            Work::Waiting(
+                Pending {
+                    op,
+                    own,
+                    phase,
                     registers,
-                    ..pending
+                },
+            ) => {
+                let registers = self.readings(phase, registers);
+                let read = Pending {
+                    op,
+                    own,
+                    phase,
+                    registers,
                 };
                 match self.follow(read) {
                     Step::Continue(phase) => {
-                        self.put(station, Work::Waiting(Pending { phase, ..read }));
+                        let next = Pending {
+                            op,
+                            own,
+                            phase,
+                            registers,
+                        };
+                        self.put(station, Work::Waiting(next));
                         (Outcome::Going, None)
                     }
                     Step::Break(answer) => {
-                        self.put(station, Work::Ready(read.op, answer, registers));
+                        self.put(station, Work::Ready(op, answer, registers));
                         (Outcome::CountedReady, Some(answer))
                     }
                 }

@@ -14,7 +14,8 @@ use nest_model::work::Work;
 
 impl<K: Copy> Nest<K> {
     // Can a nest be made with so many stations and nodes for keys, over these tables? Their content does not matter, and
-    // they may be longer than needed.
+    // they may be longer than needed. Numbers and tables are handed in one by one, by a rule of the boards: `check` borrows
+    // the tables that `new` then takes.
     pub fn check(
         stations: usize,
         size: usize,

@@ -117,6 +117,8 @@ impl<F: Board, S: Board> Board for Pair<F, S> {
         self.first.bound().max(self.second.bound())
     }
 
+    // Inlined, so that a floor which only asks whether a station is free or uncounted builds no station of the pair.
+    #[inline(always)]
     fn station(&self, station: usize) -> Station<Side<F::Op, S::Op>, Side<F::Answer, S::Answer>> {
         let first = self.first.station(station);
         if first.is_free() {

@@ -43,7 +43,8 @@ fn read_file(rt: &HostRuntime, path: &str) -> io::Result<Vec<u8>> {
     read_script(rt.alloc(), fs::open(rt, path)?)
 }
 
-// What is wrong with a line of a script, and what may stand there.
+// What is wrong with a line of a script, and what may stand there. It is no Display of the kind, which would put the
+// program's advice into the crate of faults.
 fn advice(kind: FaultKind) -> &'static str {
     match kind {
         FaultKind::TooLong => "the script is longer than 32,768 bytes: cut it into several scripts",

@@ -1,7 +1,8 @@
 -- The report at the end of a run.
-use Rattle.std.specs.Prelude.{ℕ, List, [], ◌∷◌, ◌++◌, codes, decimal}
+use Rattle.std.specs.Prelude.{ℕ, List, [], ◌∷◌, ◌++◌, codes}
 use Rattle.floor_model.specs.declared.line.Line.{Line}
 use Rattle.script_model.specs.Replies.{line_of}
+pub use Rattle.floor_model.specs.Printed.{entry_text}
 
 -- the texts of items one after another
 abbrev pub joined : {X : Type 0} → (X → List ℕ) → List X → List ℕ
@@ -17,11 +18,6 @@ on_line text x = line_of (text x)
 -- (NAME X ..), on a line
 abbrev pub list_text : {X : Type 0} → (X → List ℕ) → List ℕ → List X → List ℕ
 list_text text name xs = (codes "(" ++ name) ++ (joined (after_space text) xs ++ codes ")\n")
-
--- (entry STATION TURN OP ANSWER), for a line of the ledger
-abbrev pub entry_text : {Op Answer : Type 0} → (Op → List ℕ) → (Answer → List ℕ) → Line Op Answer → List ℕ
-entry_text op answer l =
-    codes "(entry " ++ (decimal l.station ++ (codes " " ++ (decimal l.turn ++ (codes " " ++ (op l.operation ++ (codes " " ++ (answer l.answer ++ codes ")")))))))
 
 -- the contents of the nest, those of the line, and the ledger, line by line
 abbrev pub report_text : {K E Op Answer : Type 0} → (K → List ℕ) → (E → List ℕ) → (Op → List ℕ) → (Answer → List ℕ) → List K → List E → List (Line Op Answer) → List ℕ

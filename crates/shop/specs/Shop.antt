@@ -20,14 +20,12 @@ use Rattle.nest_model.specs.Making.{made}
 use Rattle.nest_model.specs.Meaning as nest_meaning
 use Rattle.nest_model.specs.Sound.{Sound as NestSound}
 use Rattle.nest_model.specs.declared.node.Node.{Node as NestNode}
-use Rattle.nest.specs.View as nest_view
 use Rattle.nest.specs.declared.Nest.{Nest}
 use Rattle.line_model.specs.Line.{LineModel, steps as line_steps}
 use Rattle.line_model.specs.Fresh.{fresh}
 use Rattle.line_model.specs.Meaning as line_meaning
 use Rattle.line_model.specs.Sound.{Sound as LineSound}
 use Rattle.line_model.specs.declared.node.Node.{Node as LineNode}
-use Rattle.line.specs.View as line_view
 use Rattle.line.specs.declared.Line.{Line}
 use Rattle.pair_model.specs.Pair.{pair_steps, pair_means, Sound as PairSound}
 use Rattle.pair.specs.declared.pair.Pair.{Pair}
@@ -73,7 +71,7 @@ abbrev pub ShopModel : Type 0 → Type 0 → Type 0
 ShopModel K E = NestModel K × LineModel E
 
 abbrev pub shop_model : {K E : Type 0} → Pair (Nest K) (Line E) → ShopModel K E
-shop_model b = (nest_view.model_of b.first, line_view.model_of b.second)
+shop_model b = (b.first, b.second)
 
 -- the board just made
 abbrev pub shop_board : {K E : Type 0} → (stations nest-nodes line-nodes : ℕ) → K → E → ShopModel K E

@@ -3,11 +3,9 @@
 ghost use Rattle.std.specs.Prelude.{◌≡◌, ◌+◌, ◌≤◌, true, ◌&&◌, [], replicate, IfOk, IfErr};
 ghost use Rattle.keys.specs.declared.refusal.Refusal.TheVariants.{NoMemory};
 ghost use Rattle.boards.specs.Board.{Fresh};
-ghost use Rattle.nest.specs.View.{model_of as nest_model};
 ghost use Rattle.nest_model.specs.Making.{made as nest_made};
 ghost use Rattle.nest_model.specs.Meaning.{means as nest_means};
 ghost use Rattle.nest_model.specs.Sound.{Sound as NestSound};
-ghost use Rattle.line.specs.View.{model_of as line_model};
 ghost use Rattle.line_model.specs.Fresh.{fresh as line_made};
 ghost use Rattle.line_model.specs.Meaning.{means as line_means};
 ghost use Rattle.line_model.specs.Sound.{Sound as LineSound};
@@ -33,9 +31,9 @@ pub fn make_nest<K: Key>(
     key: K,
 ) -> Result<Nest<K>, Refusal>
     requires { (1 ≤ stations) × (stations ≤ 16) × (1 ≤ nodes) × (nodes ≤ 512) }
-    ensures is { IfOk result (λ n. nest_model n ≡ nest_made stations nodes (replicate (nodes + 2) (nest_node key))) }
-    ensures sound { IfOk result (λ n. NestSound K.before (nest_model n)) }
-    ensures fresh { IfOk result (λ n. Fresh (nest_means K.before) [] (nest_model n)) }
+    ensures is { IfOk result (λ n. n ≡ nest_made stations nodes (replicate (nodes + 2) (nest_node key))) }
+    ensures sound { IfOk result (λ n. NestSound K.before n) }
+    ensures fresh { IfOk result (λ n. Fresh (nest_means K.before) [] n) }
     ensures lacking { IfErr result (λ e. e ≡ NoMemory) }
 {
     let blank = NestNode {
@@ -58,9 +56,9 @@ pub fn make_line<E: Copy>(
     element: E,
 ) -> Result<Line<E>, Refusal>
     requires { (1 ≤ stations) × (stations ≤ 16) × (1 ≤ nodes) × (nodes ≤ 512) }
-    ensures is { IfOk result (λ l. line_model l ≡ line_made stations nodes (replicate (nodes + 1) (line_node element))) }
-    ensures sound { IfOk result (λ l. LineSound (line_model l)) }
-    ensures fresh { IfOk result (λ l. Fresh line_means [] (line_model l)) }
+    ensures is { IfOk result (λ l. l ≡ line_made stations nodes (replicate (nodes + 1) (line_node element))) }
+    ensures sound { IfOk result (λ l. LineSound l) }
+    ensures fresh { IfOk result (λ l. Fresh line_means [] l) }
     ensures lacking { IfErr result (λ e. e ≡ NoMemory) }
 {
     let blank = LineNode {

@@ -135,7 +135,7 @@ impl Board for SwapCell {
     }
 
     fn item(&self, place: usize) -> Option<usize> {
-        if place == 0 { Some(self.held) } else { None }
+        (place == 0).then_some(self.held)
     }
 
     fn show(&self, list: &mut [usize]) -> bool {

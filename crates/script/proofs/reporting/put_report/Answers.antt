@@ -2,9 +2,7 @@
 use Rattle.std.proofs.Common.{min, length, take, string_bytes, ap, ◌∙◌}
 use Rattle.std.proofs.lemmas.Result.{err_from_is_err_and, on_ok_weaker}
 use Rattle.nest_model.specs.Meaning as nest_meaning
-use Rattle.nest.specs.View as nest_view
 use Rattle.line_model.specs.Meaning as line_meaning
-use Rattle.line.specs.View as line_view
 use Rattle.script_model.proofs.Joined.{report_parts}
 use Rattle.script.specs.Script.{op_text, answer_text, shop_report}
 use Rattle.script.proofs.reporting.put_report.Goals as goal
@@ -26,13 +24,13 @@ returns g c =
     on_ok_weaker c.put_entries.result
     (λ printed. report_parts key element (op_text key element) (answer_text element)
     (string_bytes c.args.out.now) (string_bytes c.put_contents.new.out) (string_bytes c.put_contents-2.new.out) (string_bytes c.put_entries.new.out)
-    (nest_meaning.contents (nest_view.model_of board.first)) (nest_meaning.contents (nest_view.model_of c.first.result.now))
-    (line_meaning.contents (line_view.model_of board.second)) (line_meaning.contents (line_view.model_of c.second.result.now))
+    (nest_meaning.contents board.first) (nest_meaning.contents c.first.result.now)
+    (line_meaning.contents board.second) (line_meaning.contents c.second.result.now)
     c.args.ledger.now c.split_at.result.0.now c.args.floor.now.written
     c.in_ok-put_contents.ensures
-    (ap (λ n. nest_meaning.contents (nest_view.model_of n)) (c.first.ensures ∙ ap (λ b. b.first) c.board.ensures))
+    (ap (λ n. nest_meaning.contents n) (c.first.ensures ∙ ap (λ b. b.first) c.board.ensures))
     c.in_ok-put_contents-2.ensures
-    (ap (λ l. line_meaning.contents (line_view.model_of l)) (c.second.ensures ∙ ap (λ b. b.second) c.board-2.ensures))
+    (ap (λ l. line_meaning.contents l) (c.second.ensures ∙ ap (λ b. b.second) c.board-2.ensures))
     printed
     (c.split_at.ensures.front ∙ ap (λ k. take k c.args.ledger.now) (c.min.ensures ∙ ap (λ w. min w (length c.args.ledger.now)) c.written.ensures)))
     c.put_entries.ensures

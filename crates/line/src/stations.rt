@@ -13,7 +13,7 @@ impl<E: Copy> Line<E> {
         ensures is { result ≡ seat_of self.now.seats station }
         ensures within { in_seat (length self.now.nodes) result ≡ true }
     {
-        if station >= 1 && station <= self.seats.len() {
+        if (1..=self.seats.len()).contains(&station) {
             self.seats[station - 1]
         } else {
             Seat::Free

@@ -144,7 +144,7 @@ impl<F: Board, S: Board> Board for Pair<F, S> {
     fn item(&self, place: usize) -> Option<Side<F::Item, S::Item>> {
         match self.first.item(place) {
             Some(item) => Some(Side::First(item)),
-            // here the first side has at most `place` items, so their number is told exactly
+            // a match and no `map`: here the first side has at most `place` items, so their number is told exactly
             None => {
                 let later = self.second.item(place - self.first.items());
                 later.map(|item| Side::Second(item))

@@ -1,5 +1,5 @@
 // The lines of a script after the first, read and obeyed one by one.
-ghost use Rattle.floor_model.specs.Floor.{Fits};
+ghost use Rattle.floor_model.specs.Floor.{Fits, StaysFit};
 ghost use Rattle.floor.specs.Model.{floor_of};
 ghost use Rattle.forms_model.specs.Operations.{operation_at};
 ghost use Rattle.std.specs.Prelude.{string_bytes};
@@ -32,7 +32,7 @@ fn obey_line<T: Trade, B: Board<Op = Operation<T::Key, T::Element>>>(
 where
     B::Answer: Text,
     ensures ran { Fits B.means B.sound (floor_of B.model floor.old) → LineRan B.Answer.Text.bytes result (line_step B.steps B.means (operation_at T.Trade.rules) (state (floor_of B.model floor.old) ledger.old) line.entry.number line.entry.bytes.now) (string_bytes out.old) (string_bytes out.new) (state (floor_of B.model floor.new) ledger.new) }
-    ensures fits { Fits B.means B.sound (floor_of B.model floor.old) → Fits B.means B.sound (floor_of B.model floor.new) }
+    ensures fits { StaysFit B.means B.sound (floor_of B.model floor.old) (floor_of B.model floor.new) }
 {
     let call = line_call::<T>(heap, line)?;
     let reply = obey(floor, ledger, &call);
@@ -52,7 +52,7 @@ pub fn obey_lines<'s, T: Trade, B: Board<Op = Operation<T::Key, T::Element>>>(
 where
     B::Answer: Text,
     ensures ran { Fits B.means B.sound (floor_of B.model floor.old) → LinesRan B.steps B.means (operation_at T.Trade.rules) B.Answer.Text.bytes result lines.entry (string_bytes out.old) (string_bytes out.new) (state (floor_of B.model floor.old) ledger.old) (state (floor_of B.model floor.new) ledger.new) }
-    ensures fits { Fits B.means B.sound (floor_of B.model floor.old) → Fits B.means B.sound (floor_of B.model floor.new) }
+    ensures fits { StaysFit B.means B.sound (floor_of B.model floor.old) (floor_of B.model floor.new) }
 {
     while let Some(line) = lines.next() {
         if let Reply::Closed = obey_line::<T, B>(heap, floor, ledger, line, out)? {

@@ -1,6 +1,6 @@
 // The forms of a script as calls of a floor.
 ghost use Rattle.std.specs.Prelude.{◌≡◌};
-ghost use Rattle.floor_model.specs.Floor.{Fits};
+ghost use Rattle.floor_model.specs.Floor.{Fits, StaysFit};
 ghost use Rattle.floor.specs.Model.{floor_of};
 ghost use Rattle.script_model.specs.Run.{obeyed, reply_or_refusal};
 ghost use Rattle.script_model.specs.State.{state};
@@ -20,7 +20,7 @@ pub fn obey<B: Board>(
 ) -> Reply<B::Answer>
     ensures told { result ≡ (obeyed B.steps B.means (state (floor_of B.model floor.old) ledger.old) call.now).1 }
     ensures left { Fits B.means B.sound (floor_of B.model floor.old) → state (floor_of B.model floor.new) ledger.new ≡ (obeyed B.steps B.means (state (floor_of B.model floor.old) ledger.old) call.now).0 }
-    ensures fits { Fits B.means B.sound (floor_of B.model floor.old) → Fits B.means B.sound (floor_of B.model floor.new) }
+    ensures fits { StaysFit B.means B.sound (floor_of B.model floor.old) (floor_of B.model floor.new) }
 {
     match taken(floor, ledger, call) {
         Ok(reply) => reply,
@@ -36,7 +36,7 @@ fn taken<B: Board>(
 ) -> Result<Reply<B::Answer>, Refusal>
     ensures told { reply_or_refusal result ≡ (obeyed B.steps B.means (state (floor_of B.model floor.old) ledger.old) call.now).1 }
     ensures left { Fits B.means B.sound (floor_of B.model floor.old) → state (floor_of B.model floor.new) ledger.new ≡ (obeyed B.steps B.means (state (floor_of B.model floor.old) ledger.old) call.now).0 }
-    ensures fits { Fits B.means B.sound (floor_of B.model floor.old) → Fits B.means B.sound (floor_of B.model floor.new) }
+    ensures fits { StaysFit B.means B.sound (floor_of B.model floor.old) (floor_of B.model floor.new) }
 {
     match call {
         Call::Start(station, op) => {

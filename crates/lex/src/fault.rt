@@ -100,6 +100,7 @@ impl From<Fault> for Stop {
     }
 }
 
+// Want of memory has two errors in std, so `?` needs a conversion from each.
 impl From<AllocError> for Stop {
     ghost from_gives = { λ _ r. r ≡ NoMemory };
 

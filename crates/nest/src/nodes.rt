@@ -59,7 +59,8 @@ impl<K: Copy> Nest<K> {
         }
     }
 
-    // Sets a node's cell to `new` if it is `old`. Tells whether it set the cell.
+    // Sets a node's cell to `new` if it is `old`. Tells whether it set the cell. The line's compare-and-set is another, since
+    // it is handed the cell, and here a register may name none.
     pub(crate) fn compare_and_set(&mut self, named: Option<usize>, old: Cell, new: Cell) -> bool
         ensures told { result ≡ holds self.old.nodes named old }
         ensures left { self.new ≡ nodes_of self.old (exchanged self.old.nodes named old new) }

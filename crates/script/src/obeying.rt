@@ -22,6 +22,7 @@ pub fn obey<B: Board>(
     ensures left { Fits B.means B.sound (floor_of B.model floor.old) → state (floor_of B.model floor.new) ledger.new ≡ (obeyed B.steps B.means (state (floor_of B.model floor.old) ledger.old) call.now).0 }
     ensures fits { StaysFit B.means B.sound (floor_of B.model floor.old) (floor_of B.model floor.new) }
 {
+    // a match: `unwrap_or_else` with a constructor, whose type here names a bound's own, is not covered by the borrow checker
     match taken(floor, ledger, call) {
         Ok(reply) => reply,
         Err(reason) => Reply::Refused(reason),

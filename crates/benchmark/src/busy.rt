@@ -12,6 +12,7 @@ pub fn busy_nest(
     number: usize,
     touches: usize,
 ) -> anyhow::Result<Run> {
+    // pushed one by one: made by `try_resize_with` their touches took 3 to 7% more time
     let mut nests = Vec::new(rt.alloc());
     for _ in 0..number {
         nests.push(make_nest(rt.alloc(), sizes)?)?;

@@ -24,6 +24,7 @@ fn open_shops(rt: &HostRuntime, number: usize, stations: usize) -> anyhow::Resul
         stations,
         ..LARGEST
     };
+    // pushed one by one, as the nests of the other workloads
     let mut shops = Vec::new(rt.alloc());
     for _ in 0..number {
         shops.push(open_shop(rt.alloc(), sizes, SMALLEST, SMALLEST_TICKET)?)?;

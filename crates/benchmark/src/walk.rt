@@ -65,7 +65,8 @@ fn chain(heap: Global) -> Result<Vec<Node<SizeLabel>>, AllocError> {
     Ok(nodes)
 }
 
-// Follows the next cells from the front to the back. Tells how many there were.
+// Follows the next cells from the front to the back. Tells how many there were. This loop is what is measured, so it is no
+// iterator.
 fn walk(nodes: &[Node<SizeLabel>]) -> usize {
     let mut at = 0;
     for steps in 0..nodes.len() {

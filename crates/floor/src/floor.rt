@@ -21,7 +21,8 @@ pub struct Closed;
 // its taken starts, stands in `turns` at the station's number; place 0 is no station's, and there are as many places as
 // there can be stations, since an opening that cannot fail takes no memory. Operations and answers stand on the board
 // alone. The phase is part of the type, and a call that leads to another phase takes the floor itself: no floor is
-// touched or closed once it is closed.
+// touched or closed once it is closed. Contracts see a floor through `floor_of`, and no model stands for it here: the value
+// of a model cannot name what the bound `Board` gives.
 #[derive(Drop)]
 pub struct Floor<B: Board, P> {
     board: B,

@@ -1,4 +1,4 @@
-// The seats of the stations.
+// The seats of the stations. The nest keeps its stations by the same two calls, over a table and a model of its own.
 ghost use Rattle.std.specs.Prelude.{◌≡◌, true, length};
 ghost use Rattle.line_model.specs.Within.{in_seat};
 ghost use Rattle.line_model.specs.Seats.{seat_of};

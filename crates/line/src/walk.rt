@@ -8,7 +8,8 @@ use crate::Line;
 use std::marker::Model;
 
 // A walk from a node on, seen as the list of the elements that are left: those of the nodes after `at`, and of no more
-// than `most` nodes, so that the walk ends whatever the next cells hold.
+// than `most` nodes, so that the walk ends whatever the next cells hold. That of the nest is another: it passes marked nodes,
+// and its ends have no keys.
 #[derive(Drop)]
 pub(crate) struct Walk<'a, E> {
     line: &'a Line<E>,

@@ -47,8 +47,8 @@ impl<K: Key> Nest<K> {
     ) -> Nest<K>
         requires { refusal stations size (vec_len nodes) (vec_len works) ≡ accepted }
         ensures is { result ≡ made stations size nodes.items }
-        ensures sound { Sound K.before (result) }
-        ensures fresh { Fresh (means K.before) [] (result) }
+        ensures sound { Sound K.before result }
+        ensures fresh { Fresh (means K.before) [] result }
     {
         nodes.truncate(size + 2);
         join(&mut nodes);

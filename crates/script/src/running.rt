@@ -96,6 +96,7 @@ pub fn run_floor<T: Trade>(
     ensures ran { PartRan result (begun T.Trade.rules opening lines.entry.rest.now) (string_bytes out.old) (string_bytes out.new) }
     ensures day { UnlessMemory result (shop_refusal opening.stations opening.limit opening.nodes opening.line_nodes ≡ None → Day T.Trade.rules opening (begun T.Trade.rules opening lines.entry.rest.now)) }
 {
+    // the form has these numbers too, and no `Sizes`: floors know nothing of text, nor text of floors
     let sizes = Sizes {
         stations: opening.stations,
         limit: opening.limit,

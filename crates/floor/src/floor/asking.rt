@@ -36,6 +36,7 @@ impl<B: Board, P> Floor<B, P> {
     pub fn turn(&self, station: usize) -> Option<usize>
         ensures { result ≡ (if exists B.means (B.model self.now.board) station then Some (turn_of (floor_of B.model self.now) station) else None) }
     {
+        // no `then`: a closure would not know that the place exists
         if self.board.exists(station) {
             Some(self.turns[station])
         } else {

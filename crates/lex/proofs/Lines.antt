@@ -1,5 +1,5 @@
 -- How bytes are cut into lines: the first line, and the lines of what follows it.
-use Rattle.std.proofs.Common.{◌≡◌, ℕ, ◌+◌, ◌-◌, ◌<◌, ◌≤◌, Bool, true, false, cond, List, [], ◌∷◌, length, take, drop, sym, refl, ap, ◌∙◌, subst, one-add, arith, length-drop}
+use Rattle.std.proofs.Common.{◌≡◌, ℕ, ◌+◌, ◌-◌, ◌<◌, Bool, true, false, cond, List, [], ◌∷◌, length, take, drop, sym, refl, ap, ◌∙◌, subst, one-add, arith, length-drop}
 use Rattle.std.specs.List.{prefix_len}
 use Rattle.lex.specs.Lines.{in_line, onto, lines_of, first_of, after_first}
 
@@ -24,7 +24,3 @@ after_length bs rest e = ap length e ∙ length-drop 1 (drop (prefix_len in_line
 -- what follows the first line is shorter
 pub after_shorter : (bs rest : List ℕ) → 0 < length bs → rest ≡ after_first bs → length rest < length bs
 after_shorter bs rest some e = omega (arith, after_length bs rest e)
-
--- and within every bound of the whole
-pub after_within : (bs rest : List ℕ) (most : ℕ) → rest ≡ after_first bs → length bs ≤ most → length rest ≤ most
-after_within bs rest most e few = omega (arith, after_length bs rest e)

@@ -42,7 +42,7 @@ where
 
 // Reads and obeys lines of a script, to the last one or to a close that is taken. Gives the lines after such a close.
 // Floor, ledger and output are no struct here: it would hold three loans, and each call of the floor would take it apart.
-pub fn obey_lines<'s, T: Trade, B: Board<Op = Operation<T::Key, T::Element>>>(
+pub(crate) fn obey_lines<'s, T: Trade, B: Board<Op = Operation<T::Key, T::Element>>>(
     heap: Global,
     floor: &mut OpenFloor<B>,
     ledger: &mut [Line<B::Op, B::Answer>],

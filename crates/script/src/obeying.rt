@@ -15,7 +15,7 @@ use script_model::reply::Reply;
 // Makes the call of a form. A close that is taken only says so: the host then closes the floor.
 // That the floor fits is a premise of `left`, here and of what obeys lines: it is no invariant of the type, since a floor can
 // be opened over any board. A shop's floor fits from its opening on.
-pub fn obey<B: Board>(
+pub(crate) fn obey<B: Board>(
     floor: &mut OpenFloor<B>,
     ledger: &mut [Line<B::Op, B::Answer>],
     call: &Call<B::Op>,

@@ -14,7 +14,7 @@ use shop::opening::{ShopBoard, ShopLine};
 use std::alloc::{AllocError, Global};
 
 // Prints the contents of the nest, those of the line, and the lines of the ledger that are written.
-pub fn put_report<K: Key + Text, E: Copy + Text, P>(
+pub(crate) fn put_report<K: Key + Text, E: Copy + Text, P>(
     heap: Global,
     floor: &Floor<ShopBoard<K, E>, P>,
     ledger: &[ShopLine<K, E>],

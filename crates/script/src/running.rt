@@ -86,7 +86,7 @@ fn run_lines<T: Trade>(
 }
 
 // Opens the floor of a trade, and runs the lines after the first on it. A floor form that is sent back ends the run.
-pub fn run_floor<T: Trade>(
+pub(crate) fn run_floor<T: Trade>(
     heap: Global,
     opening: Opening,
     lines: Lines<'_>,

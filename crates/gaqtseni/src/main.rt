@@ -119,7 +119,8 @@ fn take_one<K: Key + Text, E: Copy + Text, F: Fn(&E) -> K>(
     }
 }
 
-// Takes so many elements and prints how many were spread and how many set aside.
+// Takes so many elements and prints how many were spread and how many set aside. They are counted as they are taken: a list of
+// their fates would want memory.
 fn take_all<K: Key + Text, E: Copy + Text, F: Fn(&E) -> K>(
     rt: &HostRuntime,
     shop: &mut Shop<K, E>,
@@ -128,18 +129,15 @@ fn take_all<K: Key + Text, E: Copy + Text, F: Fn(&E) -> K>(
 ) -> anyhow::Result<()>
     requires { F.IsAlwaysCallable key_of.now }
 {
-    let mut fates = Vec::new(rt.alloc());
+    let mut spread: usize = 0;
+    let mut aside: usize = 0;
     for _ in 0..number {
-        fates.push(take_one(rt, shop, key_of)?)?;
+        match take_one(rt, shop, key_of)? {
+            Some(Fate::Spread) => spread = spread.saturating_add(1),
+            Some(Fate::SetAside) => aside = aside.saturating_add(1),
+            None => {}
+        }
     }
-    let spread = fates
-        .iter()
-        .filter(|fate| **fate == Some(Fate::Spread))
-        .count();
-    let aside = fates
-        .iter()
-        .filter(|fate| **fate == Some(Fate::SetAside))
-        .count();
     println!(rt; "{spread} spread, {aside} set aside")?;
     Ok(())
 }

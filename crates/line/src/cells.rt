@@ -20,6 +20,20 @@ fn compare_and_set<T: PartialEq + Copy>(cell: &mut T, old: T, new: T) -> bool
     }
 }
 
+impl<E> Line<E> {
+    ghost use Rattle.std.specs.Prelude.{◌+◌};
+    ghost use Rattle.line_model.specs.Within.{IsWithin};
+
+    // How many nodes there are for elements. It tells of any line what is true of every one, for callers, whose clauses see
+    // the model alone.
+    pub fn size(&self) -> usize
+        ensures told { result + 1 ≡ length self.now.nodes }
+        ensures within { IsWithin self.now }
+    {
+        self.nodes.len() - 1
+    }
+}
+
 // That a node is one of the table is asked by each read and write of a cell, and not tested: a touch makes no test that
 // the invariant spares it. The types of nodes do not say it, since a number cannot name the table that it counts in.
 impl<E: Copy> Line<E> {

@@ -20,7 +20,7 @@ use Rattle.line_model.proofs.Ranks.{put, put_other}
 use Rattle.line_model.proofs.Walk.{after_none}
 use Rattle.line_model.proofs.Chains.{never}
 
-all_same : {A : Type 0} (n i : ℕ) (a : A) → get_or (replicate n a) i a ≡ a
+pub all_same : {A : Type 0} (n i : ℕ) (a : A) → get_or (replicate n a) i a ≡ a
 all_same zero i a = refl
 all_same (suc n) zero a = refl
 all_same (suc n) (suc i) a = all_same n i a
@@ -94,13 +94,13 @@ module _ {E : Type 0} (s m : ℕ) (ns : List (Node E)) (seats : ℕ) (z : Sizes 
   abbrev F : LineModel E
   F = fresh s m ns
 
-  fresh_length : length F.nodes ≡ m + 1
+  pub fresh_length : length F.nodes ≡ m + 1
   fresh_length = length-take-le (m + 1) (unlinked ns) (simp length-map (omega (arith, z.long_nodes)))
 
-  fresh_seat : (p : ℕ) → seat_of F.seats p ≡ Free
+  pub fresh_seat : (p : ℕ) → seat_of F.seats p ≡ Free
   fresh_seat p = cond_both (leb 1 p) (get_or (replicate s Free) (p - 1) Free) Free (λ x. x ≡ Free) (λ _. all_same s (p - 1) Free) (λ _. refl)
 
-  fresh_next : (a : ℕ) → next_of F.nodes a ≡ None
+  pub fresh_next : (a : ℕ) → next_of F.nodes a ≡ None
   fresh_next a = unlinked_next (m + 1) ns a
 
   fresh_chain : Chain F.nodes 1 0 0 first_rank 1

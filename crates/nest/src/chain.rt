@@ -61,7 +61,9 @@ impl<'a, K: Copy> Iterator for Keys<'a, K> {
 
     ghost remaining = { item_count ahead };
 
-    // The place is the walk's own, so the loop tests it and no range counts it.
+    // The place is the walk's own, so the loop tests it and no range counts it. Inlined, so that place and count need not be
+    // stored at each key: as a call, a listing took half as much time again.
+    #[inline(always)]
     fn next(&mut self) -> Option<K> {
         while self.turns > 0 && self.node != BACK {
             let here = self.node;

@@ -35,6 +35,19 @@ pub(crate) fn gone(next: Option<usize>) -> Cell
     Cell { next, mark: true }
 }
 
+impl<K> Nest<K> {
+    ghost use Rattle.nest.specs.View.{IsTabled};
+
+    // How many nodes there are for keys. It tells of any nest what is true of every one, for callers, whose clauses see the
+    // model alone.
+    pub fn size(&self) -> usize
+        ensures told { result ≡ self.now.size }
+        ensures tabled { IsTabled self.now }
+    {
+        self.size
+    }
+}
+
 impl<K: Copy> Nest<K> {
     // A node of the table.
     pub(crate) fn find(&self, n: usize) -> Option<Node<K>>

@@ -98,6 +98,7 @@ impl<K: Key> Nest<K> {
 
     // What follows once the registers are set. Only N4, N5 and N6 change a cell that other stations can reach, each by
     // one compare-and-set; where that does not find the cell as it was read, the operation starts again.
+    // Which touch it is stands in the station table as data, since other stations may be touched in between.
     pub(crate) fn follow(&mut self, pending: Pending<K>) -> Step
         ensures told { result ≡ (followed K.before pending.op pending.own pending.phase (is_marked pending.registers.mark) pending.registers self.old.nodes).1 }
         ensures left { self.new ≡ nodes_of self.old (followed K.before pending.op pending.own pending.phase (is_marked pending.registers.mark) pending.registers self.old.nodes).0 }

@@ -15,7 +15,7 @@ use std::marker::Model;
 // no such form; what is then left does not matter, since the line is at fault.
 #[derive(Drop)]
 pub struct Reader<'t, 's> {
-    rest: &'t [Token<'s>],
+    pub rest: &'t [Token<'s>],
 }
 
 // A contract sees the tokens as values.
